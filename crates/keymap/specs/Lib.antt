@@ -1,0 +1,13 @@
+pub mod Limits
+pub mod Refusals
+pub mod Key
+pub mod Map
+pub mod Queries
+pub mod Prefixes
+pub mod Label
+pub mod Bits
+pub mod Degrees
+pub mod Image
+pub mod Forest
+pub mod BreadthFirst
+pub mod Decode

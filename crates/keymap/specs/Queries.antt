@@ -1,0 +1,50 @@
+-- What 01 asks of a map (modules 5 to 7). Any engine that answers from a map is held to these; the exact match is `lookup`.
+--
+--     beginning        the predictive listing of a query: the keys that begin with it
+--     longer           its postfix listing: those that are longer besides
+--     isPrefixIn       some key begins with the query and is longer
+--     commonOfAll      the longest common prefix of all keys of a map
+--     longestPrefixIn  that of the keys that begin with the query, unless there are none or it is empty
+--     commonPrefixIn   the shortest key that is a prefix of the query and longer than a length already seen
+--     leastAbove       the least key above another: what the next step of a listing gives
+use Prim.Native.Nat.{ℕ, Ordering, Ordering·lt, Ordering·eq, Ordering·gt}
+use mathlib.Core.Bool.{Bool, true, false, cond, _&&_}
+use mathlib.Core.List.{List, [], _∷_, head?}
+use mathlib.Core.Option.{Option, none, some}
+use lib.ListN.{length}
+use lib.Dec.{ltb}
+use Rattle.keymap.specs.Key.{Key, compareKeys, pick, beginsWith, extends, commonPrefix}
+use Rattle.keymap.specs.Map.{Entry, Map}
+
+-- those that a test keeps, in their order
+unfoldable pub keep : {A : Type 0} → (A → Bool) → List A → List A
+keep test [] = []
+keep test (x ∷ xs) = cond (test x) (x ∷ keep test xs) (keep test xs)
+
+abbrev pub nonempty : {A : Type 0} → List A → Bool
+nonempty [] = false
+nonempty (x ∷ xs) = true
+
+unfoldable pub beginning : Key → Map → Map
+beginning q m = keep (λ (e : Entry). beginsWith q (e .0)) m
+
+unfoldable pub longer : Key → Map → Map
+longer q m = keep (λ (e : Entry). extends q (e .0)) m
+
+unfoldable pub isPrefixIn : Key → Map → Bool
+isPrefixIn q m = nonempty (longer q m)
+
+unfoldable pub commonOfAll : Map → Key
+commonOfAll [] = []
+commonOfAll (e ∷ []) = e .0
+commonOfAll (e ∷ d ∷ m) = commonPrefix (e .0) (commonOfAll (d ∷ m))
+
+unfoldable pub longestPrefixIn : Key → Map → Option Key
+longestPrefixIn q m = cond (nonempty (commonOfAll (beginning q m))) (some (commonOfAll (beginning q m))) none
+
+-- keys that are prefixes of one query rise with their lengths, so the first is the shortest
+unfoldable pub commonPrefixIn : Key → ℕ → Map → Option Entry
+commonPrefixIn q seen m = head? (keep (λ (e : Entry). beginsWith (e .0) q && ltb seen (length (e .0))) m)
+
+unfoldable pub leastAbove : Key → Map → Option Entry
+leastAbove k m = head? (keep (λ (e : Entry). pick (compareKeys k (e .0)) true false false) m)

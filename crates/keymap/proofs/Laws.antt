@@ -1,2 +1,6 @@
 pub mod Key
 pub mod Map
+pub mod Forest
+pub mod Listing
+pub mod BreadthFirst
+pub mod Decode

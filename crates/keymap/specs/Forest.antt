@@ -43,8 +43,9 @@ unfoldable pub descend : Key → Tree → Tree
 descend [] t = t
 descend (a ∷ k) t = descend k (branch a (t .1))
 
-abbrev pub valueAt : Key → Tree → Option ℕ
-valueAt k t = (descend k t) .0
+unfoldable pub valueAt : Key → Tree → Option ℕ
+valueAt [] t = t .0
+valueAt (a ∷ k) t = valueAt k (branch a (t .1))
 
 -- what hangs below a, changed by g; it is made where there is no a
 unfoldable pub alter : ℕ → (Tree → Tree) → Forest → Forest

@@ -4,3 +4,5 @@ pub mod Forest
 pub mod Listing
 pub mod BreadthFirst
 pub mod Decode
+pub mod Levels
+pub mod LevelOrder

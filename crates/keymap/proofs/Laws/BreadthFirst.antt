@@ -88,3 +88,15 @@ queue-unique (suc n) (node a w kids next) h (x ∷ q) e =
     let t′ : q ≡ items (join next kids) ++ below q = t ∙ rw (k, items-join, append-assoc) in
     let rest : q ≡ queue n (join next kids) = queue-unique n (join next kids) (omega (arith, size-join next kids)) q t′ in
     λ i. first i ∷ rest i
+
+-- ---- there is a row for each node
+
+length-visit : (n : ℕ) (f : Forest) → size f ≡ n → length (visit n f) ≡ n
+unfolding visit size
+length-visit zero f h = refl
+length-visit (suc n) empty h = absurd (omega arith)
+length-visit (suc n) (node a w kids next) h = ap suc (length-visit n (join next kids) (omega (arith, size-join next kids)))
+
+pub length-rows : (f : Forest) → length (rows f) ≡ size f
+unfolding rows
+length-rows f = length-visit (size f) f refl

@@ -8,7 +8,7 @@ use mathlib.Core.Option.{Option, none, some}
 use lib.Dec.{eqb}
 use borrow.Author.Tests.{eq-eqb, ne-eqb}
 use Rattle.keymap.specs.Key.{Key, compareKeys}
-use Rattle.keymap.specs.Map.{Entry, Map, Before, Rising, insert, lookup}
+use Rattle.keymap.specs.Map.{Entry, Map, Before, Rising, Proper, Catalogue, insert, lookup}
 use Rattle.keymap.specs.Forest.{Forest, empty, node, Tree, bare, branch, alter, grow, valueAt, treeOf, ownEntry, behindLabel, listForest, listTree, Above, Live, Orderly}
 use Rattle.keymap.proofs.Laws.Key.{Order, order, KeyOrder, keyOrder, compare-lt, compare-refl}
 use Rattle.keymap.proofs.Laws.Map.{decKey, insert-rising, lookup-insert-same, lookup-insert-other, map-ext}
@@ -154,3 +154,39 @@ pub treeOf-insert : (k : Key) (v : ℕ) (m : Map) → Rising m → treeOf (inser
 treeOf-insert k v m r =
     ap treeOf (sym (listTree-grow k v (treeOf m) (treeOf-orderly m) ∙ ap (insert k v) (listTree-treeOf m r)))
     ∙ treeOf-listTree (grow k v (treeOf m)) (grow-orderly k v (treeOf m) (treeOf-orderly m))
+
+-- ---- a map of nonempty keys has no value at the root
+
+grow-root : (k : Key) (v : ℕ) (t : Tree) → ¬ (k ≡ []) → (grow k v t) .0 ≡ t .0
+unfolding grow
+grow-root [] v t n = absurd (n refl)
+grow-root (a ∷ k) v t n = refl
+
+pub treeOf-root : (m : Map) → Proper m → (treeOf m) .0 ≡ none
+unfolding treeOf
+treeOf-root [] p = refl
+treeOf-root (e ∷ m) p = grow-root (e .0) (e .1) (treeOf m) (p .0) ∙ treeOf-root m (p .3)
+
+pub treeOf-whole : (m : Map) → Proper m → treeOf m ≡ (none, (treeOf m) .1)
+treeOf-whole m p = λ i. (treeOf-root m p i, (treeOf m) .1)
+
+pub listForest-treeOf : (m : Map) → Catalogue m → listForest ((treeOf m) .1) ≡ m
+unfolding listTree
+listForest-treeOf m c = ap listTree (sym (treeOf-whole m (c .proper))) ∙ listTree-treeOf m (c .rising)
+
+-- ---- a live tree has an entry
+
+abbrev pub Some : Map → Type 0
+Some [] = ⊥
+Some (e ∷ m) = Unit {0}
+
+pub listTree-some : (f : Forest) (w : Option ℕ) → Live w f → Orderly f → Some (ownEntry w ++ listForest f)
+unfolding listForest
+listTree-some empty (some v) l s = tt
+listTree-some empty none l s = l
+listTree-some (node a u kids next) (some v) l s = tt
+listTree-some (node a u kids next) none l s = go (ownEntry u ++ listForest kids) (listTree-some kids u (s .1) (s .2))
+  where
+    go : (l : Map) → Some l → Some (map (behindLabel a) l ++ listForest next)
+    go [] h = absurd h
+    go (e ∷ l) h = tt

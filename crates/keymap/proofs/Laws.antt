@@ -6,3 +6,6 @@ pub mod BreadthFirst
 pub mod Decode
 pub mod Levels
 pub mod LevelOrder
+pub mod Sums
+pub mod Bits
+pub mod Degrees

@@ -3,8 +3,9 @@
 --     Row           what an image says of a node: label, value, number of children
 --     rows          the rows of a forest's nodes, in the order of the queue
 --     forestImage   the image that is written from them
-use Prim.Native.Nat.{ℕ, zero, suc}
-use mathlib.Core.List.{List, [], _∷_, map}
+--     emitted       the bits as `trie_builder.rs` pushes them, one for each element that its queue gives
+use Prim.Native.Nat.{ℕ, zero, suc, _+_, _*_}
+use mathlib.Core.List.{List, [], _∷_, _++_, map}
 use mathlib.Core.Option.{Option}
 use Rattle.keymap.specs.Forest.{Forest, empty, node, size, width, join}
 use Rattle.keymap.specs.Label.{labelEntry, valueWord}
@@ -40,3 +41,15 @@ forestBits f = sequence (width f ∷ map rowDegree (rows f))
 
 unfoldable pub forestImage : Forest → Image
 forestImage f = record { labels = map rowLabel (rows f); values = map rowValue (rows f); words = pack (forestBits f) }
+
+-- the queue of `naive_trie_b_f_iter.rs`: runs of siblings, each with the phantom sibling that ends it. A node gives a 1 and puts its children,
+-- with their phantom, behind the others; a phantom gives a 0. The first argument bounds the steps
+unfoldable pub emit : ℕ → List Forest → List ℕ
+emit zero q = []
+emit (suc n) [] = []
+emit (suc n) (empty ∷ q) = 0 ∷ emit n q
+emit (suc n) (node a w kids next ∷ q) = 1 ∷ emit n (next ∷ (q ++ (kids ∷ [])))
+
+-- every node and the root put one phantom into the queue, and every node is itself taken from it
+unfoldable pub emitted : Forest → List ℕ
+emitted f = 1 ∷ 0 ∷ emit (2 * size f + 1) (f ∷ [])

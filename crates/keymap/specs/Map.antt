@@ -4,6 +4,7 @@
 --     Proper        the keys are nonempty and of bytes, the values of 32 bits
 --     Catalogue     both: what a pool can hold and an image can stand for
 --     insert        the map with a key's value set, whether it was there or not
+--     insertAll     the same for entries in turn: of one key the last value stays
 --     lookup        the value of a key
 use Prim.Native.Nat.{ℕ, _<_, Ordering, Ordering·lt}
 use mathlib.Core.Path.{_≡_}
@@ -38,6 +39,10 @@ pub record Catalogue (m : Map) : Type 0 where
 unfoldable pub insert : Key → ℕ → Map → Map
 insert k v [] = (k, v) ∷ []
 insert k v (e ∷ m) = pick (compareKeys k (e .0)) ((k, v) ∷ e ∷ m) ((k, v) ∷ m) (e ∷ insert k v m)
+
+unfoldable pub insertAll : List Entry → Map → Map
+insertAll [] m = m
+insertAll (e ∷ es) m = insertAll es (insert (e .0) (e .1) m)
 
 unfoldable pub lookup : Key → Map → Option ℕ
 lookup k [] = none

@@ -1,3 +1,4 @@
+-- The laws of the definitions, a file for each file of specs/, and the bridges between them. Assumes nothing.
 pub mod Key
 pub mod Map
 pub mod Sums

@@ -5,6 +5,7 @@
 --     sumBelow      f 0 + f 1 + .. + f (n - 1)
 --     table         f from an index on, as a list
 --     pack          the words of a list of bits
+-- Assumes nothing.
 use Prim.Native.Nat.{ℕ, zero, suc, _+_, _*_, _/_, _%_, _^_, _-_}
 use mathlib.Core.List.{List, [], _∷_}
 use lib.ListN.{length, getD}

@@ -4,6 +4,7 @@
 --     rows          the rows of a forest's nodes, in the order of the queue
 --     forestImage   the image that is written from them
 --     emitted       the bits as `trie_builder.rs` pushes them, one for each element that its queue gives
+-- Assumes nothing.
 use Prim.Native.Nat.{ℕ, zero, suc, _+_, _*_}
 use mathlib.Core.List.{List, [], _∷_, _++_, map}
 use mathlib.Core.Option.{Option}

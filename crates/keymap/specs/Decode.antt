@@ -5,6 +5,7 @@
 --     rowsIn        the rows that an image tells
 --     decode        its forest
 --     imageMap      its map
+-- Assumes nothing.
 use Prim.Native.Nat.{ℕ, zero, suc, _-_}
 use mathlib.Core.List.{List, [], _∷_}
 use mathlib.Core.Option.{none}

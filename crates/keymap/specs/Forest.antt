@@ -11,9 +11,10 @@
 --     listTree      the map of a tree: depth first, so rising
 --     Orderly       siblings rise, and a node without value has a child: exactly the tries of maps
 --     size, width   how many nodes, how many siblings
+-- Assumes nothing.
 use Prim.Native.Nat.{ℕ, zero, suc, _+_, _<_, compare}
 use mathlib.Core.Bool.{cond}
-use mathlib.Core.List.{List, [], _∷_, _++_, map}
+use mathlib.Core.List.{[], _∷_, _++_, map}
 use mathlib.Core.Option.{Option, none, some}
 use lib.Dec.{eqb}
 use Rattle.keymap.specs.Key.{Key, pick}

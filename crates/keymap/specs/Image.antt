@@ -7,6 +7,7 @@
 --     imageLabels   for each node but the root its label, plus 256 if it has a value
 --     imageValues   for each node but the root its value, 0 if none
 --     image         the three slices of the image
+-- Assumes nothing.
 use Prim.Native.Nat.{ℕ, suc, _+_, _*_}
 use mathlib.Core.List.{List, [], _∷_, map}
 use lib.ListN.{length}

@@ -6,6 +6,7 @@
 --     beginsWith    the second key begins with the first
 --     extends       it begins with it and is longer
 --     commonPrefix  the longest common prefix of two keys
+-- Assumes nothing.
 use Prim.Native.Nat.{ℕ, _<_, compare, Ordering, Ordering·lt, Ordering·eq, Ordering·gt}
 use mathlib.Core.Bool.{Bool, true, false, cond, _&&_}
 use mathlib.Core.List.{List, [], _∷_}

@@ -4,6 +4,7 @@
 --     valueWord     what stands for the value beside it: 0 if there is none, so 0 alone does not tell
 --     labelIn       the label of such a number
 --     valueIn       the value, if it is marked as having one
+-- Assumes nothing.
 use Prim.Native.Nat.{ℕ, _+_, _%_}
 use mathlib.Core.Bool.{cond}
 use mathlib.Core.Option.{Option, none, some}

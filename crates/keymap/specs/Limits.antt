@@ -1,4 +1,5 @@
 -- The numbers of 01 that more than one definition cites.
+-- Assumes nothing.
 use Prim.Native.Nat.{ℕ, _^_}
 
 -- a byte, and so a label, is below this

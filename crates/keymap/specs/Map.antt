@@ -6,6 +6,7 @@
 --     insert        the map with a key's value set, whether it was there or not
 --     insertAll     the same for entries in turn: of one key the last value stays
 --     lookup        the value of a key
+-- Assumes nothing.
 use Prim.Native.Nat.{ℕ, _<_, Ordering, Ordering·lt}
 use mathlib.Core.Path.{_≡_}
 use mathlib.Core.List.{List, [], _∷_}

@@ -4,8 +4,9 @@
 --     prefixes      all of them, the shorter first and rising among those of a length: breadth-first order
 --     prefixesOf    the nonempty prefixes of one key
 --     missing       how many of those no key of a map begins with
+-- Assumes nothing.
 use Prim.Native.Nat.{ℕ, zero, suc, max}
-use mathlib.Core.Bool.{Bool, cond, not}
+use mathlib.Core.Bool.{cond, not}
 use mathlib.Core.List.{List, [], _∷_, _++_, map}
 use lib.ListN.{length, take}
 use lib.Dec.{leb}

@@ -7,7 +7,8 @@
 --     longestPrefixIn  that of the keys that begin with the query, unless there are none or it is empty
 --     commonPrefixIn   the shortest key that is a prefix of the query and longer than a length already seen
 --     leastAbove       the least key above another: what the next step of a listing gives
-use Prim.Native.Nat.{ℕ, Ordering, Ordering·lt, Ordering·eq, Ordering·gt}
+-- Assumes nothing.
+use Prim.Native.Nat.{ℕ}
 use mathlib.Core.Bool.{Bool, true, false, cond, _&&_}
 use mathlib.Core.List.{List, [], _∷_, head?}
 use mathlib.Core.Option.{Option, none, some}

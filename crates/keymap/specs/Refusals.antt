@@ -1,4 +1,5 @@
 -- The numbered refusals (01), one table for every crate: which call gives which is in its own crate.
+-- Assumes nothing.
 use Prim.Native.Nat.{ℕ}
 
 pub data Refusal : Type 0 where

@@ -1,9 +1,15 @@
--- The nodes in level order are the one list Q with Q = children of the root, then the children of each of Q in turn. Assumes nothing.
-use mathlib.Core.Path.{_≡_, refl, sym, ap, _∙_}
-use Prim.Native.Nat.{ℕ, zero, suc, _+_, _<_, _≤_}
+-- The nodes in level order are the one list Q with Q = the children of the root, then the children of each of Q in turn.
+--
+--     rows-queue      the rows are those of the queue's nodes
+--     queue-law       the queue is such a list
+--     queue-unique    and the only one
+--     length-rows     there is a row for each node
+-- Assumes nothing.
+use mathlib.Core.Path.{_≡_, refl, ap, _∙_}
+use Prim.Native.Nat.{ℕ, zero, suc, _+_}
 use native.Mathlib.Omega.{arith}
 use mathlib.Core.List.{List, [], _∷_, _++_, map, append-assoc, nil≢cons, head-eq-of-cons-eq, tail-eq-of-cons-eq}
-use mathlib.Core.Option.{Option, none, some}
+use mathlib.Core.Option.{Option}
 use lib.ListN.{length}
 use Rattle.keymap.specs.Forest.{Forest, empty, node, size, width, join}
 use Rattle.keymap.specs.BreadthFirst.{Row, visit, rows}

@@ -1,10 +1,16 @@
--- Level order and back. Assumes nothing.
-use mathlib.Core.Path.{_≡_, refl, sym, ap, _∙_}
-use Prim.Native.Nat.{ℕ, zero, suc, _+_, _-_, _<_, _≤_}
+-- Rows in level order and back: a row, taken before the queue of those behind it, gets back exactly the children that it had put there.
+--
+--     rows-node       the row of a node, then the queue with its children behind
+--     rebuild-rows    a forest's rows are rebuilt into the forest
+--     rows-rebuild    rows that fit are those of what is rebuilt from them
+--     fits-rows       a forest's rows fit
+-- Assumes nothing.
+use mathlib.Core.Path.{_≡_, refl, ap, _∙_}
+use Prim.Native.Nat.{ℕ, zero, suc, _-_, _≤_}
 use native.Mathlib.Omega.{arith}
-use native.Mathlib.Nat.{add-comm, suc-add, zero-add}
-use mathlib.Core.List.{List, [], _∷_, _++_}
-use mathlib.Core.Option.{Option, none, some}
+use native.Mathlib.Nat.{add-comm}
+use mathlib.Core.List.{List, [], _∷_}
+use mathlib.Core.Option.{Option}
 use Rattle.keymap.specs.Forest.{Forest, empty, node, size, width, join}
 use Rattle.keymap.specs.BreadthFirst.{Row, visit, rows}
 use Rattle.keymap.specs.Decode.{takeTrees, dropTrees, claim, rebuild}

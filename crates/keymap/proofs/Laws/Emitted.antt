@@ -11,7 +11,7 @@ use mathlib.Core.Option.{Option}
 use lib.ListN.{length, length-append}
 use Rattle.keymap.specs.Degrees.{unary, sequence}
 use Rattle.keymap.specs.Forest.{Forest, empty, node, size, width, join}
-use Rattle.keymap.specs.BreadthFirst.{Row, visit, rows, rowDegree, forestBits, emit, emitted}
+use Rattle.keymap.specs.BreadthFirst.{visit, rows, rowDegree, forestBits, emit, emitted}
 use Rattle.keymap.proofs.Laws.Forest.{size-join}
 use Rattle.keymap.proofs.Laws.Decode.{rows-node}
 

@@ -1,16 +1,24 @@
--- Laws of the trie as a forest. Assumes nothing.
+-- The trie as a forest: a look-up follows one path, so each law speaks of one branch at a time.
+--
+--     branch-alter-same, ..-other   what an alteration does to its own branch, and to others
+--     valueAt-grow-same, ..-other   a path's value after it was set, and any other path's
+--     grow-orderly                  growing keeps a tree orderly
+--     forest-ext, tree-ext          orderly tries with the same values at every path are equal
+--     size-grow                     growing adds as many nodes as the path misses
+--     size-join, width-join         siblings behind siblings
+-- Assumes nothing.
 use mathlib.Core.Path.{_≡_, refl, sym, ap, _∙_}
-use Prim.Native.Nat.{ℕ, zero, suc, _+_, _-_, _<_, _≤_, compare, Ordering, Ordering·lt, Ordering·eq, Ordering·gt}
+use Prim.Native.Nat.{ℕ, _+_, _-_, _<_, compare, Ordering, Ordering·lt, Ordering·eq, Ordering·gt}
 use native.Mathlib.Omega.{arith}
 use native.Mathlib.Decide.{ℕ-discrete}
 use mathlib.Core.Bool.{Bool, true, false, cond}
-use mathlib.Core.List.{List, [], _∷_, _++_}
+use mathlib.Core.List.{[], _∷_}
 use mathlib.Core.Option.{Option, none, some}
 use lib.Dec.{eqb}
 use borrow.Author.Tests.{eq-eqb, ne-eqb}
 use Rattle.keymap.specs.Key.{Key}
-use Rattle.keymap.specs.Forest.{Forest, empty, node, Tree, bare, hang, branch, valueAt, alter, grow, Above, Live, Orderly, size, width, join}
-use Rattle.keymap.proofs.Laws.Key.{Order, order, compare-lt, compare-gt, compare-refl}
+use Rattle.keymap.specs.Forest.{Forest, empty, node, Tree, bare, branch, valueAt, alter, grow, Above, Live, Orderly, size, width, join}
+use Rattle.keymap.proofs.Laws.Key.{Order, order}
 
 pub eqb-refl : (a : ℕ) → eqb a a ≡ true
 eqb-refl a = eq-eqb a a refl
@@ -70,7 +78,7 @@ valueAt-grow-other (a ∷ k) v t (b ∷ x) n s = go (ℕ-discrete b a) (λ c. va
     go (yes p) ih = rw (p, branch-alter-same) (ih (λ q. n (cc)))
     go (no p) ih = rw (branch-alter-other a (grow k v) (t .1) b p)
 
--- ---- soundness is kept
+-- ---- what stays orderly
 
 alter-above : (a : ℕ) (g : Tree → Tree) (f : Forest) (c : ℕ) → c < a → Above c f → Above c (alter a g f)
 unfolding alter
@@ -114,7 +122,7 @@ unfolding grow
 grow-orderly [] v t s = s
 grow-orderly (a ∷ k) v t s = alter-orderly a (grow k v) (grow-orderly k v) (grow-live k v) (t .1) s
 
--- ---- two sound tries with the same answers are the same
+-- ---- orderly tries with the same values are the same
 
 pub valueAt-bare : (x : Key) → valueAt x bare ≡ none
 unfolding valueAt branch

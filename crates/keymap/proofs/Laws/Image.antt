@@ -8,29 +8,28 @@
 -- Assumes nothing.
 use mathlib.Core.Path.{_≡_, refl, sym, ap, _∙_}
 use mathlib.Core.Logic.{_↔_}
-use Prim.Native.Nat.{ℕ, zero, suc, _+_, _*_, _%_, _<_, compare, Ordering, Ordering·lt, Ordering·eq, Ordering·gt}
+use Prim.Native.Nat.{ℕ, zero, suc, _+_, _%_, _<_, compare, Ordering, Ordering·lt, Ordering·eq, Ordering·gt}
 use native.Mathlib.Omega.{arith}
 use mathlib.Core.List.{List, [], _∷_, map}
 use mathlib.Core.Option.{Option, none, some}
-use lib.ListN.{length, drop, length-map}
+use lib.ListN.{length, length-map}
 use borrow.Author.Tests.{le-leb, lt-leb}
 use Rattle.keymap.specs.Limits.{byteLimit}
 use Rattle.keymap.specs.Key.{Key, Bytes}
 use Rattle.keymap.specs.Map.{Map, Proper, Catalogue}
-use Rattle.keymap.specs.Prefixes.{prefixes}
-use Rattle.keymap.specs.Bits.{pack, unpack, wordsFor}
+use Rattle.keymap.specs.Bits.{pack, unpack}
 use Rattle.keymap.specs.Degrees.{total, sequence, degreesFrom}
 use Rattle.keymap.specs.Image.{Image, bitsFor, image}
 use Rattle.keymap.specs.Forest.{Forest, empty, node, Tree, bare, alter, grow, treeOf, listTree, ByteLabels, size, width, join}
 use Rattle.keymap.specs.BreadthFirst.{Row, visit, rows, rowLabel, rowValue, rowDegree, forestBits, forestImage}
 use Rattle.keymap.specs.Decode.{rebuild, rowOf, rowsFrom, degreesIn, rowsIn, decode, imageMap}
-use Rattle.keymap.proofs.Laws.Bits.{unpack-pack, length-pack}
+use Rattle.keymap.proofs.Laws.Bits.{unpack-pack}
 use Rattle.keymap.proofs.Laws.Degrees.{degreesFrom-sequence, length-sequence, sequence-small}
 use Rattle.keymap.proofs.Laws.Forest.{size-join, width-join}
 use Rattle.keymap.proofs.Laws.Listing.{treeOf-whole, listTree-treeOf}
 use Rattle.keymap.proofs.Laws.BreadthFirst.{length-rows}
 use Rattle.keymap.proofs.Laws.Decode.{rebuild-rows}
-use Rattle.keymap.proofs.Laws.LevelOrder.{image-forest, length-prefixes-forest}
+use Rattle.keymap.proofs.Laws.LevelOrder.{image-forest}
 
 -- ---- how many bits
 

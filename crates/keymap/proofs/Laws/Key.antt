@@ -1,10 +1,16 @@
--- The order of bytes and of keys, by cases. Assumes nothing.
-use mathlib.Core.Path.{_≡_, refl, sym, ap, _∙_}
+-- The order of bytes and of keys, by cases: one view to a comparison carries what it says either way round.
+--
+--     order                how two numbers stand
+--     keyOrder             how two keys stand
+--     compareKeys-refl     a key stands with itself
+--     compareKeys-trans    below what is below is below
+-- Assumes nothing.
+use mathlib.Core.Path.{_≡_, refl, ap, _∙_}
 use Prim.Native.Nat.{ℕ, zero, suc, _<_, suc-le-suc, zero-le, compare, Ordering, Ordering·lt, Ordering·eq, Ordering·gt}
 use Prim.Native.Nat.{compare·zero-zero, compare·zero-suc, compare·suc-zero, compare·suc-suc}
 use native.Mathlib.Omega.{arith}
-use mathlib.Core.List.{List, [], _∷_}
-use Rattle.keymap.specs.Key.{Key, compareKeys, pick}
+use mathlib.Core.List.{[], _∷_}
+use Rattle.keymap.specs.Key.{Key, compareKeys}
 
 -- how two numbers stand, with what `compare` says of them either way
 pub data Order (a b : ℕ) : Type 0 where

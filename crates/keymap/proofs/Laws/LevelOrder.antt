@@ -6,7 +6,7 @@
 --     image-forest       the image of a map is the image of its trie
 -- Assumes nothing.
 use mathlib.Core.Path.{_≡_, refl, sym, ap, ap₂, _∙_}
-use Prim.Native.Nat.{ℕ, zero, suc, _+_, _<_, max}
+use Prim.Native.Nat.{ℕ, zero, suc, _+_, _<_}
 use native.Mathlib.Omega.{arith}
 use native.Mathlib.Nat.{zero-add, suc-add, add-suc, add-zero}
 use mathlib.Core.Bool.{Bool, true, false}
@@ -21,7 +21,6 @@ use Rattle.keymap.specs.Queries.{keep}
 use Rattle.keymap.specs.Prefixes.{level, deepest, levels, prefixes}
 use Rattle.keymap.specs.Label.{labelEntry, valueWord}
 use Rattle.keymap.specs.Bits.{pack}
-use Rattle.keymap.specs.Degrees.{sequence}
 use Rattle.keymap.specs.Image.{Image, degree, lastByte, imageBits, imageLabels, imageValues, image}
 use Rattle.keymap.specs.Forest.{Forest, empty, node, Tree, branch, descend, valueAt, listForest, listTree, Orderly, size, width, treeOf}
 use Rattle.keymap.specs.BreadthFirst.{Row, rows, rowLabel, rowValue, rowDegree, forestBits, forestImage}

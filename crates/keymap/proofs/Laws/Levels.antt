@@ -1,19 +1,21 @@
--- The distinct prefixes of each length, from the map, are the paths of each depth, from the trie. Assumes nothing.
-use mathlib.Core.Path.{_≡_, refl, sym, ap, ap₂, _∙_}
-use Prim.Native.Nat.{ℕ, zero, suc, _+_, _<_, _≤_, max, compare, Ordering, Ordering·lt, Ordering·eq, Ordering·gt}
-use native.Mathlib.Omega.{arith}
-use mathlib.Core.Bool.{Bool, true, false, cond}
-use mathlib.Core.List.{List, [], _∷_, _++_, map, append-assoc, append-nil}
+-- The distinct prefixes of each length, read off the map, are the paths of each depth, read off its trie.
+--
+--     floor           the paths of one depth
+--     level-floor     level d + 1 of a listing is floor d of its forest
+-- Assumes nothing.
+use mathlib.Core.Path.{_≡_, refl, ap, _∙_}
+use Prim.Native.Nat.{ℕ, zero, suc, _+_, _<_, compare, Ordering, Ordering·lt, Ordering·eq, Ordering·gt}
+use mathlib.Core.Bool.{Bool, true, false}
+use mathlib.Core.List.{List, [], _∷_, _++_, map}
 use mathlib.Core.Option.{Option, none, some}
-use lib.ListN.{length, take, drop, length-append, length-map}
-use lib.Dec.{eqb, leb, leb·zero, leb·suc-zero, leb·suc-suc}
-use borrow.Author.Tests.{eq-eqb, ne-eqb, eqb-true, eqb-false, lt-leb}
+use lib.ListN.{length, take}
+use lib.Dec.{leb, leb·zero, leb·suc-zero, leb·suc-suc}
 use Rattle.keymap.specs.Key.{Key, compareKeys}
 use Rattle.keymap.specs.Map.{Map}
 use Rattle.keymap.specs.Forest.{Forest, empty, node, ownEntry, behindLabel, listForest, Above, Orderly}
 use Rattle.keymap.specs.Prefixes.{once, level}
 use Rattle.keymap.proofs.Laws.Key.{compare-lt, compare-refl}
-use Rattle.keymap.proofs.Laws.Forest.{above-weak, branch-above, branch-orderly, eqb-refl}
+use Rattle.keymap.proofs.Laws.Forest.{above-weak}
 use Rattle.keymap.proofs.Laws.Listing.{Some, listTree-some}
 
 abbrev pub behindByte : ℕ → Key → Key

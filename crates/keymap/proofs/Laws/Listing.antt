@@ -1,16 +1,22 @@
--- A sound trie and its listing, a rising map, are two forms of one thing. Assumes nothing.
+-- An orderly tree and its listing, a rising map, are two forms of one thing: the listing has the tree's values, and both are told apart by them.
+--
+--     lookup-listTree       the listing's look-ups are the values at the paths
+--     listTree-rising       the listing rises
+--     listTree-grow         growing is an insert
+--     treeOf-orderly        the tree of a map is orderly
+--     listTree-treeOf       a map to its tree and back
+--     treeOf-listTree       an orderly tree to its map and back
+--     treeOf-insert         an insert is growing
+--     listForest-treeOf     a catalogue to its forest and back
+-- Assumes nothing.
 use mathlib.Core.Path.{_≡_, refl, sym, ap, _∙_}
-use Prim.Native.Nat.{ℕ, zero, suc, _+_, _<_, _≤_, compare, Ordering, Ordering·lt, Ordering·eq, Ordering·gt}
-use native.Mathlib.Omega.{arith}
-use mathlib.Core.Bool.{Bool, true, false}
-use mathlib.Core.List.{List, [], _∷_, _++_, map}
+use Prim.Native.Nat.{ℕ, _+_, _<_, compare, Ordering, Ordering·lt, Ordering·gt}
+use mathlib.Core.List.{[], _∷_, _++_, map}
 use mathlib.Core.Option.{Option, none, some}
-use lib.Dec.{eqb}
-use borrow.Author.Tests.{eq-eqb, ne-eqb}
 use Rattle.keymap.specs.Key.{Key, compareKeys}
 use Rattle.keymap.specs.Map.{Entry, Map, Before, Rising, Proper, Catalogue, insert, lookup}
-use Rattle.keymap.specs.Forest.{Forest, empty, node, Tree, bare, branch, alter, grow, valueAt, treeOf, ownEntry, behindLabel, listForest, listTree, Above, Live, Orderly}
-use Rattle.keymap.proofs.Laws.Key.{Order, order, KeyOrder, keyOrder, compare-lt, compare-refl}
+use Rattle.keymap.specs.Forest.{Forest, empty, node, Tree, bare, branch, grow, valueAt, treeOf, ownEntry, behindLabel, listForest, listTree, Above, Live, Orderly}
+use Rattle.keymap.proofs.Laws.Key.{Order, order, compare-lt, compare-refl}
 use Rattle.keymap.proofs.Laws.Map.{decKey, insert-rising, lookup-insert-same, lookup-insert-other, map-ext}
 use Rattle.keymap.proofs.Laws.Forest.{above-weak, branch-above, valueAt-bare, valueAt-grow-same, valueAt-grow-other, grow-orderly, tree-ext}
 

@@ -1,11 +1,19 @@
--- Laws of the map as a rising list of entries. Assumes nothing.
+-- Maps as rising lists: what an insert does to look-ups fixes the list, since rising maps with the same look-ups are equal.
+--
+--     insert-rising            an insert keeps a map rising
+--     lookup-insert-same       the key just inserted has its value
+--     lookup-insert-other      every other key has the one it had
+--     lookup-before            what stands before the first key is not there
+--     map-ext                  two rising maps with the same look-ups are equal
+--     insert-comm              inserts of different keys commute
+-- Assumes nothing.
 use mathlib.Core.Path.{_≡_, refl, sym, ap, _∙_}
-use Prim.Native.Nat.{ℕ, zero, suc, _<_, Ordering, Ordering·lt, Ordering·eq, Ordering·gt}
+use Prim.Native.Nat.{ℕ, Ordering, Ordering·lt, Ordering·eq, Ordering·gt}
 use mathlib.Core.List.{List, [], _∷_, List-discrete}
 use native.Mathlib.Decide.{ℕ-discrete}
-use mathlib.Core.Option.{Option, none, some}
-use Rattle.keymap.specs.Key.{Key, compareKeys, pick}
-use Rattle.keymap.specs.Map.{Entry, Map, Before, Rising, insert, lookup}
+use mathlib.Core.Option.{none, some}
+use Rattle.keymap.specs.Key.{Key, compareKeys}
+use Rattle.keymap.specs.Map.{Map, Before, Rising, insert, lookup}
 use Rattle.keymap.proofs.Laws.Key.{KeyOrder, keyOrder, compareKeys-refl, compareKeys-trans}
 
 pub decKey : (x y : Key) → Dec (x ≡ y)

@@ -8,12 +8,11 @@
 -- Assumes nothing.
 use mathlib.Core.Path.{_≡_, refl, sym, ap, _∙_}
 use mathlib.Core.Logic.{_↔_}
-use Prim.Native.Nat.{ℕ, zero, suc, _+_, _%_, _<_, compare, Ordering, Ordering·lt, Ordering·eq, Ordering·gt}
+use Prim.Native.Nat.{ℕ, zero, suc, _+_, _<_, compare, Ordering, Ordering·lt, Ordering·eq, Ordering·gt}
 use native.Mathlib.Omega.{arith}
 use mathlib.Core.List.{List, [], _∷_, map}
-use mathlib.Core.Option.{Option, none, some}
+use mathlib.Core.Option.{none}
 use lib.ListN.{length, length-map}
-use borrow.Author.Tests.{le-leb, lt-leb}
 use Rattle.keymap.specs.Limits.{byteLimit}
 use Rattle.keymap.specs.Key.{Key, Bytes}
 use Rattle.keymap.specs.Map.{Map, Proper, Catalogue}
@@ -23,6 +22,7 @@ use Rattle.keymap.specs.Image.{Image, bitsFor, image}
 use Rattle.keymap.specs.Forest.{Forest, empty, node, Tree, bare, alter, grow, treeOf, listTree, ByteLabels, size, width, join}
 use Rattle.keymap.specs.BreadthFirst.{Row, visit, rows, rowLabel, rowValue, rowDegree, forestBits, forestImage}
 use Rattle.keymap.specs.Decode.{rebuild, rowOf, rowsFrom, degreesIn, rowsIn, decode, imageMap}
+use Rattle.keymap.proofs.Laws.Label.{labelIn-labelEntry, valueIn-labelEntry}
 use Rattle.keymap.proofs.Laws.Bits.{unpack-pack}
 use Rattle.keymap.proofs.Laws.Degrees.{degreesFrom-sequence, length-sequence, sequence-small}
 use Rattle.keymap.proofs.Laws.Forest.{size-join, width-join}
@@ -85,15 +85,11 @@ unfolding rows
 rows-bytes f = bytes-visit (size f) f
 
 row-read : (r : Row) → r .label < byteLimit → rowOf (r .degree) (rowLabel r) (rowValue r) ≡ r
-row-read r h = go (r .value) refl
-  where
-    go : (w : Option ℕ) → r .value ≡ w → rowOf (r .degree) (rowLabel r) (rowValue r) ≡ r
-    go none e =
-        let m : r .label % 256 ≡ r .label = omega arith in
-        rw (e, lt-leb 256 (r .label) h, m, ← e)
-    go (some v) e =
-        let m : (r .label + 256) % 256 ≡ r .label = omega arith in
-        rw (e, le-leb 256 (r .label + 256) (omega arith), m, ← e)
+row-read r h = λ i. record {
+  label = labelIn-labelEntry (r .label) (r .value) h i;
+  value = valueIn-labelEntry (r .label) (r .value) h i;
+  degree = r .degree;
+}
 
 pub rows-read : (rs : List Row) → ByteRows rs → rowsFrom (map rowDegree rs) (map rowLabel rs) (map rowValue rs) ≡ rs
 unfolding rowsFrom

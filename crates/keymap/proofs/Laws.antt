@@ -11,5 +11,6 @@ pub mod BreadthFirst
 pub mod Emitted
 pub mod Decode
 pub mod Levels
+pub mod Children
 pub mod LevelOrder
 pub mod Image

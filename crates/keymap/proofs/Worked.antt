@@ -8,7 +8,7 @@ use Rattle.keymap.specs.Queries.{keep}
 use Rattle.keymap.specs.Prefixes.{level, deepest, levels, prefixes}
 use Rattle.keymap.specs.Bits.{sumBelow, number, table, pack}
 use Rattle.keymap.specs.Degrees.{unary, sequence}
-use Rattle.keymap.specs.Image.{Image, degree, imageBits, imageLabels, imageValues, image}
+use Rattle.keymap.specs.Image.{Image, childrenIn, degree, imageBits, imageLabels, imageValues, image}
 
 pub record Line : Type 0 where
   pub pushes : List Entry
@@ -31,5 +31,5 @@ lines =
     ∷ []
 
 pub worked-images : map (λ (l : Line). image (insertAll (l .pushes) [])) lines ≡ map (λ (l : Line). l .has) lines
-unfolding lines ab b imageA insertAll insert lookup compareKeys beginsWith keep level deepest levels prefixes sumBelow number table pack unary sequence degree imageBits imageLabels imageValues image
+unfolding lines ab b imageA insertAll insert lookup compareKeys beginsWith keep level deepest levels prefixes sumBelow number table pack unary sequence childrenIn degree imageBits imageLabels imageValues image
 worked-images = refl

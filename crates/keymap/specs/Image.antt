@@ -2,7 +2,7 @@
 -- A node is the prefix that its path spells, the root the empty one; node m of 2 or more is the prefix at index m - 2 and has entry m - 2.
 -- The map "ab" 7, "b" 3 has the nodes "a", "b", "ab"; its bits are 1 0 110 10 0 0, which are the word 45.
 --
---     degree        how many children a node has
+--     childrenIn    the children of a node
 --     imageBits     1, 0, then for each node in breadth-first order one 1 per child and a 0
 --     imageLabels   for each node but the root its label, plus 256 if it has a value
 --     imageValues   for each node but the root its value, 0 if none
@@ -11,7 +11,7 @@
 use Prim.Native.Nat.{ℕ, suc, _+_, _*_}
 use mathlib.Core.List.{List, [], _∷_, map}
 use lib.ListN.{length}
-use Rattle.keymap.specs.Key.{Key, beginsWith}
+use Rattle.keymap.specs.Key.{Key, beginsWith, lastByte}
 use Rattle.keymap.specs.Map.{Map, lookup}
 use Rattle.keymap.specs.Queries.{keep}
 use Rattle.keymap.specs.Prefixes.{level, prefixes}
@@ -28,14 +28,12 @@ pub record Image : Type 0 where
 abbrev pub bitsFor : ℕ → ℕ
 bitsFor n = 2 * n + 3
 
--- the children of p are the prefixes that are one byte longer and begin with it
-unfoldable pub degree : Map → Key → ℕ
-degree m p = length (keep (beginsWith p) (level (suc (length p)) m))
+-- the prefixes that are one byte longer and begin with it
+unfoldable pub childrenIn : Map → Key → List Key
+childrenIn m p = keep (beginsWith p) (level (suc (length p)) m)
 
-abbrev pub lastByte : Key → ℕ
-lastByte [] = 0
-lastByte (a ∷ []) = a
-lastByte (a ∷ b ∷ k) = lastByte (b ∷ k)
+unfoldable pub degree : Map → Key → ℕ
+degree m p = length (childrenIn m p)
 
 unfoldable pub imageBits : Map → List ℕ
 imageBits m = sequence (map (degree m) ([] ∷ prefixes m))

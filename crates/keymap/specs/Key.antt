@@ -6,6 +6,7 @@
 --     beginsWith    the second key begins with the first
 --     extends       it begins with it and is longer
 --     commonPrefix  the longest common prefix of two keys
+--     lastByte      the last byte, 0 of the empty key
 -- Assumes nothing.
 use Prim.Native.Nat.{ℕ, _<_, compare, Ordering, Ordering·lt, Ordering·eq, Ordering·gt}
 use mathlib.Core.Bool.{Bool, true, false, cond, _&&_}
@@ -46,3 +47,8 @@ unfoldable pub commonPrefix : Key → Key → Key
 commonPrefix [] y = []
 commonPrefix (a ∷ x) [] = []
 commonPrefix (a ∷ x) (b ∷ y) = cond (eqb a b) (a ∷ commonPrefix x y) []
+
+abbrev pub lastByte : Key → ℕ
+lastByte [] = 0
+lastByte (a ∷ []) = a
+lastByte (a ∷ b ∷ k) = lastByte (b ∷ k)

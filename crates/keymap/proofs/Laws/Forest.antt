@@ -12,12 +12,12 @@ use Prim.Native.Nat.{ℕ, _+_, _-_, _<_, compare, Ordering, Ordering·lt, Orderi
 use native.Mathlib.Omega.{arith}
 use native.Mathlib.Decide.{ℕ-discrete}
 use mathlib.Core.Bool.{Bool, true, false, cond}
-use mathlib.Core.List.{[], _∷_}
+use mathlib.Core.List.{[], _∷_, _++_}
 use mathlib.Core.Option.{Option, none, some}
 use lib.Dec.{eqb}
 use borrow.Author.Tests.{eq-eqb, ne-eqb}
 use Rattle.keymap.specs.Key.{Key}
-use Rattle.keymap.specs.Forest.{Forest, empty, node, Tree, bare, branch, valueAt, alter, grow, Above, Live, Orderly, size, width, join}
+use Rattle.keymap.specs.Forest.{Forest, empty, node, Tree, bare, branch, descend, valueAt, alter, grow, Above, Live, Orderly, size, width, join}
 use Rattle.keymap.proofs.Laws.Key.{Order, order}
 
 pub eqb-refl : (a : ℕ) → eqb a a ≡ true
@@ -61,6 +61,23 @@ branch-orderly a (node b w kids next) s = go (eqb a b) refl (branch-orderly a ne
     go : (t : Bool) → eqb a b ≡ t → Orderly ((branch a next) .1) → Orderly ((branch a (node b w kids next)) .1)
     go true e ih = rw e (s .2)
     go false e ih = rw e ih
+
+-- ---- paths
+
+pub valueAt-descend : (k : Key) (t : Tree) → valueAt k t ≡ (descend k t) .0
+unfolding valueAt descend
+valueAt-descend [] t = refl
+valueAt-descend (a ∷ k) t = valueAt-descend k (branch a (t .1))
+
+pub descend-append : (p q : Key) (t : Tree) → descend (p ++ q) t ≡ descend q (descend p t)
+unfolding descend
+descend-append [] q t = refl
+descend-append (a ∷ p) q t = descend-append p q (branch a (t .1))
+
+pub descend-orderly : (p : Key) (t : Tree) → Orderly (t .1) → Orderly ((descend p t) .1)
+unfolding descend
+descend-orderly [] t s = s
+descend-orderly (a ∷ p) t s = descend-orderly p (branch a (t .1)) (branch-orderly a (t .1) s)
 
 pub valueAt-grow-same : (k : Key) (v : ℕ) (t : Tree) → Orderly (t .1) → valueAt k (grow k v t) ≡ some v
 unfolding valueAt grow

@@ -9,8 +9,8 @@ use mathlib.Core.Path.{_≡_, refl, ap, _∙_}
 use Prim.Native.Nat.{ℕ, zero, suc, _<_, suc-le-suc, zero-le, compare, Ordering, Ordering·lt, Ordering·eq, Ordering·gt}
 use Prim.Native.Nat.{compare·zero-zero, compare·zero-suc, compare·suc-zero, compare·suc-suc}
 use native.Mathlib.Omega.{arith}
-use mathlib.Core.List.{[], _∷_}
-use Rattle.keymap.specs.Key.{Key, compareKeys}
+use mathlib.Core.List.{[], _∷_, _++_}
+use Rattle.keymap.specs.Key.{Key, compareKeys, lastByte}
 
 -- how two numbers stand, with what `compare` says of them either way
 pub data Order (a b : ℕ) : Type 0 where
@@ -80,3 +80,8 @@ compareKeys-trans (a ∷ x) (b ∷ y) (c ∷ z) p q = go (λ f g. compareKeys-tr
     go ih (same l e) (above l′ e′ f′) = cc
     go ih (same l e) (below l′ e′ f′) = rw (compare-lt a c (omega arith))
     go ih (same l e) (same l′ e′) = rw (l, l′, compare-refl) (ih (cc) (cc))
+
+pub lastByte-append : (p : Key) (a : ℕ) → lastByte (p ++ (a ∷ [])) ≡ a
+lastByte-append [] a = refl
+lastByte-append (b ∷ []) a = refl
+lastByte-append (b ∷ c ∷ p) a = lastByte-append (c ∷ p) a

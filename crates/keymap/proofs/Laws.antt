@@ -1,4 +1,5 @@
 -- The laws of the definitions, a file for each file of specs/, and the bridges between them. Assumes nothing.
+pub mod Members
 pub mod Key
 pub mod Map
 pub mod Label

@@ -1,5 +1,6 @@
 pub mod Limits
 pub mod Refusals
+pub mod Members
 pub mod Key
 pub mod Map
 pub mod Queries

@@ -1,6 +1,7 @@
 -- The laws of the definitions, a file for each file of specs/, and the bridges between them. Assumes nothing.
 pub mod Members
 pub mod Key
+pub mod Begins
 pub mod Map
 pub mod Label
 pub mod Sums

@@ -3,11 +3,13 @@
 --     Key           the bytes of a key, first to last
 --     Bytes         every element of it is a byte
 --     compareKeys   byte order
---     beginsWith    the second key begins with the first
+--     Below         the first key stands below the second in it; `isBelow` as a test
+--     PrefixOf      the second key begins with the first; `beginsWith` as a test
 --     extends       it begins with it and is longer
 --     commonPrefix  the longest common prefix of two keys
 --     lastByte      the last byte, 0 of the empty key
 -- Assumes nothing.
+use mathlib.Core.Path.{_≡_}
 use Prim.Native.Nat.{ℕ, _<_, compare, Ordering, Ordering·lt, Ordering·eq, Ordering·gt}
 use mathlib.Core.Bool.{Bool, true, false, cond, _&&_}
 use mathlib.Core.List.{List, [], _∷_}
@@ -35,10 +37,19 @@ compareKeys [] (b ∷ y) = Ordering·lt
 compareKeys (a ∷ x) [] = Ordering·gt
 compareKeys (a ∷ x) (b ∷ y) = pick (compare a b) Ordering·lt (compareKeys x y) Ordering·gt
 
+abbrev pub Below : Key → Key → Type 0
+Below x y = compareKeys x y ≡ Ordering·lt
+
+abbrev pub isBelow : Key → Key → Bool
+isBelow x y = pick (compareKeys x y) true false false
+
 unfoldable pub beginsWith : Key → Key → Bool
 beginsWith [] k = true
 beginsWith (a ∷ q) [] = false
 beginsWith (a ∷ q) (b ∷ k) = cond (eqb a b) (beginsWith q k) false
+
+abbrev pub PrefixOf : Key → Key → Type 0
+PrefixOf q k = beginsWith q k ≡ true
 
 unfoldable pub extends : Key → Key → Bool
 extends q k = beginsWith q k && ltb (length q) (length k)

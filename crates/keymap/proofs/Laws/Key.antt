@@ -5,12 +5,12 @@
 --     compareKeys-refl     a key stands with itself
 --     compareKeys-trans    below what is below is below
 -- Assumes nothing.
-use mathlib.Core.Path.{_≡_, refl, ap, _∙_}
+use mathlib.Core.Path.{_≡_, refl, sym, ap, _∙_}
 use Prim.Native.Nat.{ℕ, zero, suc, _<_, suc-le-suc, zero-le, compare, Ordering, Ordering·lt, Ordering·eq, Ordering·gt}
 use Prim.Native.Nat.{compare·zero-zero, compare·zero-suc, compare·suc-zero, compare·suc-suc}
 use native.Mathlib.Omega.{arith}
 use mathlib.Core.List.{[], _∷_, _++_}
-use Rattle.keymap.specs.Key.{Key, compareKeys, lastByte}
+use Rattle.keymap.specs.Key.{Key, compareKeys, lastByte, Below}
 
 -- how two numbers stand, with what `compare` says of them either way
 pub data Order (a b : ℕ) : Type 0 where
@@ -85,3 +85,12 @@ pub lastByte-append : (p : Key) (a : ℕ) → lastByte (p ++ (a ∷ [])) ≡ a
 lastByte-append [] a = refl
 lastByte-append (b ∷ []) a = refl
 lastByte-append (b ∷ c ∷ p) a = lastByte-append (c ∷ p) a
+
+pub below-irrefl : (x : Key) → ¬ Below x x
+below-irrefl x h =
+    let c : Ordering·lt ≡ Ordering·eq = sym h ∙ compareKeys-refl x in
+    let z : _≡_ {A = ℕ} 0 1 = cc in
+    omega arith
+
+pub below-asym : (x y : Key) → Below x y → ¬ Below y x
+below-asym x y h g = below-irrefl x (compareKeys-trans x y x h g)

@@ -7,11 +7,11 @@
 --     insertAll     the same for entries in turn: of one key the last value stays
 --     lookup        the value of a key
 -- Assumes nothing.
-use Prim.Native.Nat.{ℕ, _<_, Ordering, Ordering·lt}
+use Prim.Native.Nat.{ℕ, _<_}
 use mathlib.Core.Path.{_≡_}
 use mathlib.Core.List.{List, [], _∷_}
 use mathlib.Core.Option.{Option, none, some}
-use Rattle.keymap.specs.Key.{Key, Bytes, compareKeys, pick}
+use Rattle.keymap.specs.Key.{Key, Bytes, Below, compareKeys, pick}
 use Rattle.keymap.specs.Limits.{valueLimit}
 
 abbrev pub Entry : Type 0
@@ -20,10 +20,14 @@ Entry = Key × ℕ
 abbrev pub Map : Type 0
 Map = List Entry
 
+-- the first entry's key stands below the second's
+abbrev pub Under : Entry → Entry → Type 0
+Under e d = Below (e .0) (d .0)
+
 -- k stands before the first key of m
 abbrev pub Before : Key → Map → Type 0
 Before k [] = Unit {0}
-Before k (e ∷ m) = compareKeys k (e .0) ≡ Ordering·lt
+Before k (e ∷ m) = Below k (e .0)
 
 abbrev pub Rising : Map → Type 0
 Rising [] = Unit {0}

@@ -1,20 +1,24 @@
--- Maps as rising lists: what an insert does to look-ups fixes the list, since rising maps with the same look-ups are equal.
+-- Laws of the map as a rising list of entries: what is looked up after an insert, and that the look-ups, or the entries, determine the list.
 --
---     insert-rising            an insert keeps a map rising
---     lookup-insert-same       the key just inserted has its value
---     lookup-insert-other      every other key has the one it had
---     lookup-before            what stands before the first key is not there
---     map-ext                  two rising maps with the same look-ups are equal
---     insert-comm              inserts of different keys commute
+--     insert-rising         an insert rises
+--     lookup-insert-same    it has the value set, and `lookup-insert-other` the values of other keys
+--     insert-iff            the same of its entries
+--     insert-comm           different keys go in in either order
+--     map-ext               two maps with the same look-ups are one list, and `map-members` with the same entries
+--     rising-iff            each entry stands below all behind it
+--     lookup-iff            a key has a value exactly if the two are an entry, and `lookup-none` no value if no entry has it
+--
 -- Assumes nothing.
 use mathlib.Core.Path.{_≡_, refl, sym, ap, _∙_}
 use Prim.Native.Nat.{ℕ, Ordering, Ordering·lt, Ordering·eq, Ordering·gt}
-use mathlib.Core.List.{List, [], _∷_, List-discrete}
+use mathlib.Core.List.{List, [], _∷_, List-discrete, Memᴰ·cast, List·Memᴰ·cases-cons, List·Memᴰ·not-nil}
 use native.Mathlib.Decide.{ℕ-discrete}
-use mathlib.Core.Option.{none, some}
-use Rattle.keymap.specs.Key.{Key, compareKeys}
-use Rattle.keymap.specs.Map.{Map, Before, Rising, insert, lookup}
-use Rattle.keymap.proofs.Laws.Key.{KeyOrder, keyOrder, compareKeys-refl, compareKeys-trans}
+use mathlib.Core.Option.{none, some, Option, Option·none-ne-some, Option·some-injective}
+use Rattle.keymap.specs.Key.{Key, compareKeys, Below}
+use Rattle.keymap.specs.Map.{Map, Before, Rising, insert, lookup, Entry, Under, Proper}
+use Rattle.keymap.proofs.Laws.Key.{KeyOrder, keyOrder, compareKeys-refl, compareKeys-trans, below-irrefl, below-asym}
+use mathlib.Core.Logic.{_↔_, _⊎_, inl, inr, ⊎-elim}
+use Rattle.keymap.specs.Members.{In, here, there, Ordered}
 
 pub decKey : (x y : Key) → Dec (x ≡ y)
 decKey = List-discrete ℕ-discrete
@@ -114,3 +118,102 @@ insert-comm j k u v m n r =
     go x (yes a) (no b) = rw a (lookup-insert-same j u _ ∙ sym (lookup-insert-other k v _ j n ∙ lookup-insert-same j u m))
     go x (no a) (yes b) = rw b (lookup-insert-other j u _ k (λ c. n (sym c)) ∙ lookup-insert-same k v m ∙ sym (lookup-insert-same k v _))
     go x (no a) (no b) = lookup-insert-other j u _ x a ∙ lookup-insert-other k v m x b ∙ sym (lookup-insert-other k v _ x b ∙ lookup-insert-other j u m x a)
+
+-- what stands before the first key stands below every key
+pub before-all : (k : Key) (m : Map) → Before k m → Rising m → (e : Entry) → In e m → Below k (e .0)
+before-all k [] b r e h = absurd (List·Memᴰ·not-nil h)
+before-all k (d ∷ m) b r e h = ⊎-elim (λ p. rw p b) (λ i. before-all k m (before-weak k (d .0) m b (r .0)) (r .1) e i) (List·Memᴰ·cases-cons h)
+
+-- the keys rise exactly if each stands below all behind it
+pub rising-iff : (m : Map) → Rising m ↔ Ordered Under m
+rising-iff [] = (λ r. tt, λ o. tt)
+rising-iff (e ∷ m) = (λ r. (before-all (e .0) m (r .0) (r .1), rising-iff m .0 (r .1)), λ o. (first m (o .0), rising-iff m .1 (o .1)))
+  where
+    first : (n : Map) → ((d : Entry) → In d n → Below (e .0) (d .0)) → Before (e .0) n
+    first [] h = tt
+    first (d ∷ n) h = h d (here refl)
+
+-- a key has a value exactly if the two are an entry
+pub lookup-iff : (k : Key) (v : ℕ) (m : Map) → Rising m → (lookup k m ≡ some v) ↔ In (k, v) m
+unfolding lookup
+lookup-iff k v [] r = (λ h. absurd (Option·none-ne-some v h), λ h. absurd (List·Memᴰ·not-nil h))
+lookup-iff k v (e ∷ m) r = go (keyOrder k (e .0)) (lookup-iff k v m (r .1))
+  where
+    ahead : In (k, v) m → Below (e .0) k
+    ahead i = before-all (e .0) m (r .0) (r .1) (k, v) i
+
+    own : (k, v) ≡ e → k ≡ e .0
+    own s i = s i .0
+
+    held : (k, v) ≡ e → some (e .1) ≡ some v
+    held s = sym (λ i. some (s i .1))
+
+    go : KeyOrder k (e .0) → (lookup k m ≡ some v) ↔ In (k, v) m → (lookup k (e ∷ m) ≡ some v) ↔ In (k, v) (e ∷ m)
+    go (KeyOrder.below p q) ih =
+        rw p (
+          λ h. absurd (Option·none-ne-some v h),
+          λ h. absurd (⊎-elim (λ s. below-irrefl (e .0) (rw (own s) at p)) (λ i. below-asym k (e .0) p (ahead i)) (List·Memᴰ·cases-cons h)),
+        )
+    go (KeyOrder.same s p) ih =
+        rw p (
+          λ h. let u : e .1 ≡ v = Option·some-injective (e .1) v h in here (λ i. (s i, sym u i)),
+          λ h. ⊎-elim held (λ i. absurd (below-irrefl k (rw (← s) at (ahead i)))) (List·Memᴰ·cases-cons h),
+        )
+    go (KeyOrder.above p q) ih =
+        rw p
+        (λ h. there (ih .0 h), λ h. ⊎-elim (λ s. absurd (below-irrefl k (rw (← (own s)) at q))) (λ i. ih .1 i) (List·Memᴰ·cases-cons h))
+
+-- entries with one key are one entry
+pub entry-one : (m : Map) → Rising m → (e d : Entry) → In e m → In d m → e .0 ≡ d .0 → e ≡ d
+entry-one m r e d i j s =
+    let h : lookup (e .0) m ≡ some (e .1) = lookup-iff (e .0) (e .1) m r .1 i in
+    let g : lookup (d .0) m ≡ some (d .1) = lookup-iff (d .0) (d .1) m r .1 j in
+    let u : e .1 ≡ d .1 = Option·some-injective (e .1) (d .1) (sym h ∙ ap (λ x. lookup x m) s ∙ g) in
+    λ t. (s t, u t)
+
+-- a key has no value exactly if no entry has it
+pub lookup-none : (k : Key) (m : Map) → Rising m → (lookup k m ≡ none) ↔ ((v : ℕ) → ¬ In (k, v) m)
+lookup-none k m r = (λ h v i. Option·none-ne-some v (sym h ∙ lookup-iff k v m r .1 i), go (lookup k m) refl)
+  where
+    go : (o : Option ℕ) → lookup k m ≡ o → ((v : ℕ) → ¬ In (k, v) m) → lookup k m ≡ none
+    go none e h = e
+    go (some v) e h = absurd (h v (lookup-iff k v m r .0 e))
+
+-- look-ups follow the entries
+pub lookup-members : (k : Key) (m n : Map) → Rising m → Rising n → ((v : ℕ) → In (k, v) m ↔ In (k, v) n) → lookup k m ≡ lookup k n
+lookup-members k m n r s h = go (lookup k n) refl
+  where
+    go : (o : Option ℕ) → lookup k n ≡ o → lookup k m ≡ lookup k n
+    go none e = lookup-none k m r .1 (λ v i. lookup-none k n s .0 e v (h v .0 i)) ∙ sym e
+    go (some v) e = lookup-iff k v m r .1 (h v .1 (lookup-iff k v n s .0 e)) ∙ sym e
+
+-- two maps with the same entries are the same list
+pub map-members : (m n : Map) → Rising m → Rising n → ((e : Entry) → In e m ↔ In e n) → m ≡ n
+map-members m n r s h = map-ext m n r s (λ k. lookup-members k m n r s (λ v. h (k, v)))
+
+-- an insert has its own entry, those of the map with other keys, and no more
+pub insert-iff : (k : Key) (v : ℕ) (m : Map) → Rising m → (e : Entry) → In e (insert k v m) ↔ ((e ≡ (k, v)) ⊎ (In e m × (¬ (e .0 ≡ k))))
+insert-iff k v m r e = (from (decKey (e .0) k), to)
+  where
+    after : Rising (insert k v m)
+    after = insert-rising k v m r
+
+    from : Dec (e .0 ≡ k) → In e (insert k v m) → (e ≡ (k, v)) ⊎ (In e m × (¬ (e .0 ≡ k)))
+    from (yes s) i =
+        let h : lookup (e .0) (insert k v m) ≡ some (e .1) = lookup-iff (e .0) (e .1) _ after .1 i in
+        let u : v ≡ e .1 = Option·some-injective v (e .1) (sym (lookup-insert-same k v m) ∙ rw s at h) in
+        inl (λ t. (s t, sym u t))
+    from (no n) i =
+        let h : lookup (e .0) (insert k v m) ≡ some (e .1) = lookup-iff (e .0) (e .1) _ after .1 i in
+        inr (lookup-iff (e .0) (e .1) m r .0 (sym (lookup-insert-other k v m (e .0) n) ∙ h), n)
+
+    to : (e ≡ (k, v)) ⊎ (In e m × (¬ (e .0 ≡ k))) → In e (insert k v m)
+    to (inl s) = Memᴰ·cast s (lookup-iff k v _ after .0 (lookup-insert-same k v m))
+    to (inr (i, n)) = lookup-iff (e .0) (e .1) _ after .0 (lookup-insert-other k v m (e .0) n ∙ lookup-iff (e .0) (e .1) m r .1 i)
+
+-- no proper map has the empty key
+pub lookup-empty : (m : Map) → Proper m → lookup [] m ≡ none
+unfolding lookup compareKeys
+lookup-empty [] p = refl
+lookup-empty (([], v) ∷ m) p = absurd (p .0 refl)
+lookup-empty ((a ∷ k, v) ∷ m) p = refl

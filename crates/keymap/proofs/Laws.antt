@@ -16,3 +16,4 @@ pub mod Levels
 pub mod Children
 pub mod LevelOrder
 pub mod Image
+pub mod Queries

@@ -3,6 +3,7 @@
 --     In            an element is one of a list's, at the head (`here`) or behind it (`there`)
 --     Ordered       each element stands in a relation to every one behind it
 --     Distinct      no element comes twice
+-- Assumes nothing.
 use mathlib.Core.Path.{_≡_}
 use mathlib.Core.List.{List, [], _∷_}
 pub use mathlib.Core.List.{List·Memᴰ as In, List·Memᴰ·head as here, List·Memᴰ·tail as there}

@@ -17,3 +17,4 @@ pub mod Children
 pub mod LevelOrder
 pub mod Image
 pub mod Queries
+pub mod Prefixes

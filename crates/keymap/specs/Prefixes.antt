@@ -1,16 +1,19 @@
 -- The distinct nonempty prefixes of a map's keys: the records that a pool has in use, and an image's nodes besides the root (01, demand 3).
 --
 --     level         the distinct prefixes of one length, rising
---     prefixes      all of them, the shorter first and rising among those of a length: breadth-first order
+--     prefixes      all of them, in breadth-first order
+--     Earlier       that order: the shorter first, and rising among those of a length
 --     prefixesOf    the nonempty prefixes of one key
 --     missing       how many of those no key of a map begins with
 -- Assumes nothing.
-use Prim.Native.Nat.{ℕ, zero, suc, max}
+use mathlib.Core.Path.{_≡_}
+use mathlib.Core.Logic.{_⊎_}
+use Prim.Native.Nat.{ℕ, zero, suc, _<_, max}
 use mathlib.Core.Bool.{cond, not}
 use mathlib.Core.List.{List, [], _∷_, _++_, map}
 use lib.ListN.{length, take}
 use lib.Dec.{leb}
-use Rattle.keymap.specs.Key.{Key, compareKeys, pick}
+use Rattle.keymap.specs.Key.{Key, compareKeys, pick, Below}
 use Rattle.keymap.specs.Map.{Map}
 use Rattle.keymap.specs.Queries.{keep, nonempty, beginning}
 
@@ -35,6 +38,9 @@ levels (suc n) d m = level d m ++ levels n (suc d) m
 
 unfoldable pub prefixes : Map → List Key
 prefixes m = levels (deepest m) 1 m
+
+abbrev pub Earlier : Key → Key → Type 0
+Earlier p q = (length p < length q) ⊎ ((length p ≡ length q) × Below p q)
 
 unfoldable pub prefixesOf : Key → List Key
 prefixesOf [] = []

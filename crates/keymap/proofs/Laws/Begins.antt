@@ -62,9 +62,9 @@ prefix-trans [] q k g h = prefix-empty k
 prefix-trans (a ∷ p) [] k g h = absurd (prefix-nil a p g)
 prefix-trans (a ∷ p) (b ∷ q) [] g h = absurd (prefix-nil b q h)
 prefix-trans (a ∷ p) (b ∷ q) (c ∷ k) g h =
-    let (e, g′) = prefix-cons a p b q .0 g in
-    let (f, h′) = prefix-cons b q c k .0 h in
-    prefix-cons a p c k .1 (e ∙ f, prefix-trans p q k g′ h′)
+    let (e, u) = prefix-cons a p b q .0 g in
+    let (f, w) = prefix-cons b q c k .0 h in
+    prefix-cons a p c k .1 (e ∙ f, prefix-trans p q k u w)
 
 pub prefix-length : (q k : Key) → PrefixOf q k → length q ≤ length k
 prefix-length q k h = let (r, e) = prefix-rest q k h in omega (arith, ap length e, length-append q r)
@@ -74,9 +74,9 @@ prefix-chain [] q k g h l = prefix-empty q
 prefix-chain (a ∷ p) [] k g h l = absurd (omega arith)
 prefix-chain (a ∷ p) (b ∷ q) [] g h l = absurd (prefix-nil a p g)
 prefix-chain (a ∷ p) (b ∷ q) (c ∷ k) g h l =
-    let (e, g′) = prefix-cons a p c k .0 g in
-    let (f, h′) = prefix-cons b q c k .0 h in
-    prefix-cons a p b q .1 (e ∙ sym f, prefix-chain p q k g′ h′ (omega arith))
+    let (e, u) = prefix-cons a p c k .0 g in
+    let (f, w) = prefix-cons b q c k .0 h in
+    prefix-cons a p b q .1 (e ∙ sym f, prefix-chain p q k u w (omega arith))
 
 -- a prefix that is as long is the key itself
 pub prefix-whole : (q k : Key) → PrefixOf q k → length k ≤ length q → q ≡ k

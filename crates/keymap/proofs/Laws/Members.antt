@@ -25,7 +25,7 @@ module _ {A B : Type 0} (f : A → B) where
       go ih (inl e) = (x, here refl, e)
       go ih (inr k) = let (z, i, e) = ih k in (z, there i, e)
 
-  pub in-map-to : {x : A} {xs : List A} → In x xs → In (f x) (map f xs)
+  in-map-to : {x : A} {xs : List A} → In x xs → In (f x) (map f xs)
   in-map-to (here e) = here (ap f e)
   in-map-to (there h) = there (in-map-to h)
 
@@ -47,6 +47,10 @@ module _ {A : Type 0} where
   head-before R {x} (z ∷ xs) o e y i =
       let s : z ≡ x = Option·some-injective z x e in
       ⊎-elim (λ t. inl (t ∙ s)) (λ j. inr (rw s at (o .0 y j))) (List·Memᴰ·cases-cons i)
+
+  pub members-none : (xs : List A) → ((x : A) → ¬ In x xs) → xs ≡ []
+  members-none [] h = refl
+  members-none (x ∷ xs) h = absurd (h x (here refl))
 
   -- what stands before an element, and what stands behind it
   in-split : {x : A} {ys : List A} → In x ys → (s t : List A) × (ys ≡ s ++ (x ∷ t))
@@ -98,9 +102,9 @@ module _ {A : Type 0} where
     ordered-append xs ys =
         (λ o. (ordered-left xs ys o, ordered-right xs ys o, ordered-apart xs ys o), λ p. ordered-join xs ys (p .0) (p .1) (p .2))
 
-  pub ordered-weak : {R S : A → A → Type 0} → ((x y : A) → R x y → S x y) → (xs : List A) → Ordered R xs → Ordered S xs
-  ordered-weak w [] o = tt
-  ordered-weak w (x ∷ xs) o = (λ y h. w x y (o .0 y h), ordered-weak w xs (o .1))
+  pub ordered-weak : {R S : A → A → Type 0} (xs : List A) → ((x y : A) → In x xs → In y xs → R x y → S x y) → Ordered R xs → Ordered S xs
+  ordered-weak [] w o = tt
+  ordered-weak (x ∷ xs) w o = (λ y i. w x y (here refl) (there i) (o .0 y i), ordered-weak xs (λ y z i j. w y z (there i) (there j)) (o .1))
 
 pub ordered-map : {A B : Type 0} (R : A → A → Type 0) (S : B → B → Type 0) (f : A → B) → ((x y : A) → R x y → S (f x) (f y)) → (xs : List A) → Ordered R xs → Ordered S (map f xs)
 ordered-map R S f w [] o = tt

@@ -27,7 +27,7 @@ use Rattle.keymap.specs.Members.{In, here, there, Ordered}
 use Rattle.keymap.specs.Key.{Key, pick, compareKeys, Below, isBelow, beginsWith, PrefixOf, extends}
 use Rattle.keymap.specs.Map.{Entry, Map, Under, Rising, lookup}
 use Rattle.keymap.specs.Queries.{keep, nonempty, SomeBegins, beginning, longer, isPrefixIn, LongestCommon, commonOfAll, unlessEmpty, longestPrefixIn, ShortestWithin, commonPrefixIn, NextAfter, leastAbove}
-use Rattle.keymap.proofs.Laws.Members.{head-in, head-none, head-before, ordered-append}
+use Rattle.keymap.proofs.Laws.Members.{members-none, head-in, head-none, head-before, ordered-append}
 use Rattle.keymap.proofs.Laws.Key.{KeyOrder, keyOrder, below-irrefl, below-asym}
 use Rattle.keymap.proofs.Laws.Begins.{both-true, extends-iff, commonPrefix-iff, prefix-length, prefix-chain, prefix-whole, prefix-proper, prefix-below, prefix-refl, prefix-rises}
 use Rattle.keymap.proofs.Laws.Map.{decKey, rising-iff, lookup-iff, lookup-none, lookup-members, map-members, entry-one}
@@ -60,11 +60,10 @@ module _ {A : Type 0} (test : A → Bool) where
       go false e ih = rw e ih
 
   keep-none : (xs : List A) → (keep test xs ≡ []) ↔ ((x : A) → In x xs → ¬ (test x ≡ true))
-  keep-none xs = (λ h x i t. List·Memᴰ·not-nil (rw h at (keep-iff x xs .1 (i, t))), go (keep test xs) refl)
-    where
-      go : (ys : List A) → keep test xs ≡ ys → ((x : A) → In x xs → ¬ (test x ≡ true)) → keep test xs ≡ []
-      go [] e h = e
-      go (y ∷ ys) e h = let (i, t) = keep-iff y xs .0 (rw e (here refl)) in absurd (h y i t)
+  keep-none xs = (
+    λ h x i t. List·Memᴰ·not-nil (rw h at (keep-iff x xs .1 (i, t))),
+    λ h. members-none (keep test xs) (λ x i. let (j, t) = keep-iff x xs .0 i in h x j t),
+  )
 
   nonempty-keep : (xs : List A) → (nonempty (keep test xs) ≡ true) ↔ ((x : A) × In x xs × (test x ≡ true))
   nonempty-keep xs = (go (keep test xs) refl, λ h. back (keep test xs) (keep-iff (h .0) xs .1 (h .1, h .2)))

@@ -18,3 +18,4 @@ pub mod LevelOrder
 pub mod Image
 pub mod Queries
 pub mod Prefixes
+pub mod Paths

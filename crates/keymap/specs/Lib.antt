@@ -12,3 +12,4 @@ pub mod Image
 pub mod Forest
 pub mod BreadthFirst
 pub mod Decode
+pub mod Paths

@@ -2,29 +2,36 @@
 -- behind those of the nodes before it, since the nodes but the root are the children of each node in turn.
 --
 --     pathOf-nodeOf, nodeOf-pathOf   a node's path and number give each other
---     nodes-children                 the nodes but the root are the children of each node in turn
+--     nodes-iff                      the paths of nodes are the root's and those with which some key begins
 --     pathOf-child                   the paths of a node's children, by their numbers
+--     childrenIn-iff                 they are the paths one byte longer with which some key begins
+--     childrenIn-some                there are some exactly if some longer key begins with the path
+--     labels-node, values-node       what the image says of a node
 -- Assumes nothing.
 use mathlib.Core.Path.{_≡_, refl, sym, ap, _∙_}
 use mathlib.Core.Logic.{_↔_, _⊎_, inl, inr, ⊎-elim}
-use Prim.Native.Nat.{ℕ, zero, suc, _+_, _-_, _≤_, _<_}
+use Prim.Native.Nat.{ℕ, zero, suc, _+_, _-_, _<_}
 use native.Mathlib.Omega.{arith}
 use native.Mathlib.Nat.{zero-add, not-suc-le-zero, le-of-suc-le-suc}
-use mathlib.Core.List.{List, [], _∷_, _++_, flatMap, List·Memᴰ·cases-cons, List·Memᴰ·not-nil}
-use lib.ListN.{length, getD, List·getD-append}
+use mathlib.Core.List.{List, [], _∷_, _++_, map, flatMap, append-assoc, List·Memᴰ·cases-cons, List·Memᴰ·not-nil}
+use mathlib.Core.Bool.{Bool, true, false, false≢true}
+use lib.ListN.{length, getD, List·getD-append, length-append}
 use lib.Seq.{getD-append-add}
 use Rattle.keymap.specs.Members.{In, here, there, Ordered, Distinct}
-use Rattle.keymap.specs.Key.{Key}
-use Rattle.keymap.specs.Map.{Map, Rising, Catalogue}
-use Rattle.keymap.specs.Queries.{SomeBegins}
-use Rattle.keymap.specs.Prefixes.{prefixes}
+use Rattle.keymap.specs.Key.{Key, compareKeys, Below, beginsWith, lastByte}
+use Rattle.keymap.specs.Label.{labelEntry, valueWord}
+use Rattle.keymap.specs.Map.{Entry, Map, Rising, Catalogue, lookup}
+use Rattle.keymap.specs.Queries.{keep, nonempty, SomeBegins, isPrefixIn}
+use Rattle.keymap.specs.Prefixes.{level, prefixes}
 use Rattle.keymap.specs.Bits.{sumBelow}
-use Rattle.keymap.specs.Image.{childrenIn, degree}
+use Rattle.keymap.specs.Image.{childrenIn, degree, imageLabels, imageValues}
 use Rattle.keymap.specs.Paths.{nodes, IsNode, pathOf, indexOf, nodeOf}
-use Rattle.keymap.proofs.Laws.Sums.{sumBelow-zero, sumBelow-first, sumBelow-ext}
-use Rattle.keymap.proofs.Laws.Key.{KeyOrder, keyOrder, compareKeys-refl}
+use Rattle.keymap.proofs.Laws.Sums.{sumBelow-zero, sumBelow-first}
+use Rattle.keymap.proofs.Laws.Key.{Order, order, compare-lt, compare-refl, KeyOrder, keyOrder, compareKeys-refl}
+use Rattle.keymap.proofs.Laws.Begins.{prefix-iff, prefix-trans, prefix-length}
+use Rattle.keymap.proofs.Laws.Queries.{keep-iff, keep-ordered, isPrefixIn-iff}
 use Rattle.keymap.proofs.Laws.Map.{decKey}
-use Rattle.keymap.proofs.Laws.Prefixes.{prefixes-iff, prefixes-distinct}
+use Rattle.keymap.proofs.Laws.Prefixes.{level-iff, level-ordered, prefixes-iff, prefixes-distinct}
 use Rattle.keymap.proofs.Laws.Children.{prefixes-children}
 
 -- ---- where a key stands in a list
@@ -131,3 +138,92 @@ pub pathOf-child : (m : Map) → Catalogue m → (i j : ℕ) → i < length (nod
 unfolding pathOf nodes degree
 pathOf-child m c i j h l =
     ap (λ (ps : List Key). getD ps (sumBelow (degreeAt m) i + j) []) (prefixes-children m c) ∙ flatMap-run (childrenIn m) ([] ∷ prefixes m) i j h l
+
+-- ---- what a node's children are
+
+child-byte : (r : Key) → length r ≡ 1 → (a : ℕ) × (r ≡ a ∷ [])
+child-byte [] h = absurd (omega arith)
+child-byte (a ∷ []) h = (a, refl)
+child-byte (a ∷ b ∷ r) h = absurd (omega arith)
+
+pub childrenIn-iff : (m : Map) (p q : Key) → In q (childrenIn m p) ↔ ((a : ℕ) × (q ≡ p ++ (a ∷ [])) × SomeBegins q m)
+unfolding childrenIn
+childrenIn-iff m p q = (there-to, back)
+  where
+    there-to : In q (keep (beginsWith p) (level (suc (length p)) m)) → (a : ℕ) × (q ≡ p ++ (a ∷ [])) × SomeBegins q m
+    there-to h =
+        let (i, b) = keep-iff (beginsWith p) q (level (suc (length p)) m) .0 h in
+        let (l, s) = level-iff (suc (length p)) m q .0 i in
+        let (r, e) = prefix-iff p q .0 b in
+        let one : length r ≡ 1 = omega (arith, ap length e, length-append p r) in
+        let (a, f) = child-byte r one in
+        (a, e ∙ ap (λ (t : Key). p ++ t) f, s)
+
+    back : (a : ℕ) × (q ≡ p ++ (a ∷ [])) × SomeBegins q m → In q (keep (beginsWith p) (level (suc (length p)) m))
+    back (a, e, s) =
+        let l : length q ≡ suc (length p) = omega (arith, ap length e, length-append p (a ∷ [])) in
+        keep-iff (beginsWith p) q (level (suc (length p)) m) .1 (level-iff (suc (length p)) m q .1 (l, s), prefix-iff p q .1 (a ∷ [], e))
+
+pub childrenIn-ordered : (m : Map) → Rising m → (p : Key) → Ordered Below (childrenIn m p)
+unfolding childrenIn
+childrenIn-ordered m r p = keep-ordered (beginsWith p) Below (level (suc (length p)) m) (level-ordered (suc (length p)) m r)
+
+-- siblings stand as their last bytes do
+pub below-label : (p : Key) (a b : ℕ) → Below (p ++ (a ∷ [])) (p ++ (b ∷ [])) ↔ (a < b)
+unfolding compareKeys
+below-label [] a b = (go (order a b), λ l. rw (compare-lt a b l))
+  where
+    go : Order a b → Below (a ∷ []) (b ∷ []) → a < b
+    go (Order.below l e f) h = l
+    go (Order.same l e) h = let z : _≡_ {A = ℕ} 0 1 = cc in absurd (omega arith)
+    go (Order.above l e f) h = let z : _≡_ {A = ℕ} 0 1 = cc in absurd (omega arith)
+below-label (c ∷ p) a b = rw compare-refl (below-label p a b)
+
+tests-same : (s t : Bool) → (s ≡ true → t ≡ true) → (t ≡ true → s ≡ true) → s ≡ t
+tests-same true t g h = sym (g refl)
+tests-same false true g h = h refl
+tests-same false false g h = refl
+
+nonempty-iff : {A : Type 0} (xs : List A) → (nonempty xs ≡ true) ↔ ((x : A) × In x xs)
+nonempty-iff [] = (λ h. absurd (false≢true h), λ h. absurd (List·Memᴰ·not-nil (h .1)))
+nonempty-iff (x ∷ xs) = (λ h. (x, here refl), λ h. refl)
+
+-- a node has a child exactly if some key is longer than its path and begins with it
+pub childrenIn-some : (m : Map) (p : Key) → nonempty (childrenIn m p) ≡ isPrefixIn p m
+childrenIn-some m p = tests-same (nonempty (childrenIn m p)) (isPrefixIn p m) longer-key child
+  where
+    longer-key : nonempty (childrenIn m p) ≡ true → isPrefixIn p m ≡ true
+    longer-key h =
+        let (q, i) = nonempty-iff (childrenIn m p) .0 h in
+        let (a, e, (d, j, b)) = childrenIn-iff m p q .0 i in
+        let l : length q ≡ suc (length p) = omega (arith, ap length e, length-append p (a ∷ [])) in
+        isPrefixIn-iff p m .1 (d, j, prefix-trans p q (d .0) (prefix-iff p q .1 (a ∷ [], e)) b, omega (arith, prefix-length q (d .0) b))
+
+    first-byte : (d : Entry) (r : Key) → d .0 ≡ p ++ r → length p < length (d .0) → In d m → (q : Key) × In q (childrenIn m p)
+    first-byte d [] e l j = absurd (omega (arith, ap length e, length-append p []))
+    first-byte d (a ∷ r) e l j =
+        let q : Key = p ++ (a ∷ []) in
+        (q, childrenIn-iff m p q .1 (a, refl, (d, j, prefix-iff q (d .0) .1 (r, e ∙ sym (append-assoc p (a ∷ []) r)))))
+
+    child : isPrefixIn p m ≡ true → nonempty (childrenIn m p) ≡ true
+    child h =
+        let (d, j, b, l) = isPrefixIn-iff p m .0 h in
+        let (r, e) = prefix-iff p (d .0) .0 b in
+        nonempty-iff (childrenIn m p) .1 (first-byte d r e l j)
+
+-- ---- what an image says of a node
+
+-- inside a list what stands beyond it does not matter
+getD-map : (f : Key → ℕ) (ps : List Key) (i : ℕ) → i < length ps → getD (map f ps) i 0 ≡ f (getD ps i [])
+getD-map f [] i h = absurd (not-suc-le-zero h)
+getD-map f (p ∷ ps) zero h = refl
+getD-map f (p ∷ ps) (suc i) h = getD-map f ps i (le-of-suc-le-suc h)
+
+pub labels-node : (m : Map) (i : ℕ) → i < length (prefixes m)
+    → getD (imageLabels m) i 0 ≡ labelEntry (lastByte (pathOf m (suc (suc i)))) (lookup (pathOf m (suc (suc i))) m)
+unfolding imageLabels pathOf nodes
+labels-node m i h = getD-map (λ p. labelEntry (lastByte p) (lookup p m)) (prefixes m) i h
+
+pub values-node : (m : Map) (i : ℕ) → i < length (prefixes m) → getD (imageValues m) i 0 ≡ valueWord (lookup (pathOf m (suc (suc i))) m)
+unfolding imageValues pathOf nodes
+values-node m i h = getD-map (λ p. valueWord (lookup p m)) (prefixes m) i h

@@ -1,0 +1,4 @@
+pub mod Rank
+pub mod Select
+pub mod Nodes
+pub mod Put

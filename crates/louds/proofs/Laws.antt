@@ -4,3 +4,4 @@ pub mod Nodes
 pub mod Words
 pub mod Put
 pub mod Degrees
+pub mod MapNodes

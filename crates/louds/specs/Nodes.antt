@@ -3,6 +3,7 @@
 --
 --     childrenOf    the numbers of a node's children: the first, and how many
 --     parentOf      the number of its parent
+-- Assumes nothing.
 use Prim.Native.Nat.{ℕ, _+_, _-_}
 use Rattle.louds.specs.declared.Spot.{Spot}
 use Rattle.louds.specs.declared.Spot.the-variants.{At, Missing}

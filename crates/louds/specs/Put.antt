@@ -1,4 +1,5 @@
 -- Setting one bit of some words (01, "The image": bit i has weight 2^(i mod 64) in word i/64).
+-- Assumes nothing.
 use Prim.Native.Nat.{ℕ, _/_, _%_, _^_}
 use mathlib.Core.List.{List}
 use lib.ListN.{getD, set}

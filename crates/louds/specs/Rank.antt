@@ -1,5 +1,6 @@
 -- Ranks (01, "The image"): how many ones, and how many zeros, stand before a place.
 -- Bits are a function b from places to 0 or 1: `bit ws` for the bits of some words.
+-- Assumes nothing.
 use Prim.Native.Nat.{ℕ, _-_}
 use Rattle.keymap.specs.Bits.{sumBelow}
 

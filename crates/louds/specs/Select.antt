@@ -6,6 +6,7 @@
 --     zeroAt        the k-th zero
 --     zeroFrom      the k-th zero at a place or beyond
 --     bitFrom       the k-th bit of a given value at a place or beyond
+-- Assumes nothing.
 use Prim.Native.Nat.{ℕ, zero, suc}
 use mathlib.Core.Bool.{cond}
 use lib.Dec.{leb}

@@ -1,7 +1,7 @@
 -- An image gives its trie back, and so its map: two maps with one image are one. The rows of a trie and the degrees that its bits spell
 -- are the same numbers, and rows are rebuilt into the trie that they came from.
 --
---     length-image-labels, ..   how long the three slices are: n, n, and the words of 2n + 3 bits
+--     length-imageBits, ..      how long the image is: n labels, n values, 2n + 3 bits
 --     decode-forestImage        decoding the image of a trie gives the trie
 --     imageMap-image            decoding the image of a map gives the map
 --     image-one                 equal images come only from equal maps
@@ -16,9 +16,10 @@ use lib.ListN.{length, length-map}
 use Rattle.keymap.specs.Limits.{byteLimit}
 use Rattle.keymap.specs.Key.{Key, Bytes}
 use Rattle.keymap.specs.Map.{Map, Proper, Catalogue}
+use Rattle.keymap.specs.Prefixes.{prefixes}
 use Rattle.keymap.specs.Bits.{pack, unpack}
 use Rattle.keymap.specs.Degrees.{total, sequence, degreesFrom}
-use Rattle.keymap.specs.Image.{Image, bitsFor, image}
+use Rattle.keymap.specs.Image.{Image, bitsFor, imageBits, imageLabels, imageValues, image}
 use Rattle.keymap.specs.Forest.{Forest, empty, node, Tree, bare, alter, grow, treeOf, listTree, ByteLabels, size, width, join}
 use Rattle.keymap.specs.BreadthFirst.{Row, visit, rows, rowLabel, rowValue, rowDegree, forestBits, forestImage}
 use Rattle.keymap.specs.Decode.{rebuild, rowOf, rowsFrom, degreesIn, rowsIn, decode, imageMap}
@@ -26,10 +27,10 @@ use Rattle.keymap.proofs.Laws.Label.{labelIn-labelEntry, valueIn-labelE
 use Rattle.keymap.proofs.Laws.Bits.{unpack-pack}
 use Rattle.keymap.proofs.Laws.Degrees.{degreesFrom-sequence, length-sequence, sequence-small}
 use Rattle.keymap.proofs.Laws.Forest.{size-join, width-join}
-use Rattle.keymap.proofs.Laws.Listing.{treeOf-whole, listTree-treeOf}
+use Rattle.keymap.proofs.Laws.Listing.{treeOf-whole, treeOf-orderly, listTree-treeOf, listForest-treeOf}
 use Rattle.keymap.proofs.Laws.BreadthFirst.{length-rows}
 use Rattle.keymap.proofs.Laws.Decode.{rebuild-rows}
-use Rattle.keymap.proofs.Laws.LevelOrder.{image-forest}
+use Rattle.keymap.proofs.Laws.LevelOrder.{bits-forest, image-forest, length-prefixes-forest}
 
 -- ---- how many bits
 
@@ -128,6 +129,24 @@ unfolding imageMap
 imageMap-image m c =
     let forest : decode (image m) ≡ (treeOf m) .1 = rw (image-forest m c) (decode-forestImage ((treeOf m) .1) (treeOf-bytes m (c .proper))) in
     ap listTree (ap (λ (f : Forest). (none, f)) forest ∙ sym (treeOf-whole m (c .proper))) ∙ listTree-treeOf m (c .rising)
+
+-- ---- how long its slices are
+
+pub length-imageBits : (m : Map) → Catalogue m → length (imageBits m) ≡ bitsFor (length (prefixes m))
+length-imageBits m c =
+    let f = (treeOf m) .1 in
+    let bits : imageBits m ≡ forestBits f = rw (listForest-treeOf m c) at (bits-forest f (treeOf-orderly m)) in
+    ap length bits ∙ length-forestBits f ∙ ap bitsFor (sym (length-prefixes-forest m c))
+
+pub length-imageLabels : (m : Map) → length (imageLabels m) ≡ length (prefixes m)
+unfolding imageLabels
+length-imageLabels m = length-map (prefixes m) _
+
+pub length-imageValues : (m : Map) → length (imageValues m) ≡ length (prefixes m)
+unfolding imageValues
+length-imageValues m = length-map (prefixes m) _
+
+-- ---- one image, one map
 
 pub image-one : (m n : Map) → Catalogue m → Catalogue n → (image m ≡ image n) ↔ (m ≡ n)
 image-one m n c d = (λ e. sym (imageMap-image m c) ∙ ap imageMap e ∙ imageMap-image n d, λ e. ap image e)

@@ -26,7 +26,7 @@ use Rattle.keymap.specs.Prefixes.{level, prefixes}
 use Rattle.keymap.specs.Bits.{sumBelow}
 use Rattle.keymap.specs.Image.{childrenIn, degree, imageLabels, imageValues}
 use Rattle.keymap.specs.Paths.{nodes, IsNode, pathOf, indexOf, nodeOf}
-use Rattle.keymap.proofs.Laws.Sums.{sumBelow-zero, sumBelow-first}
+use Rattle.keymap.proofs.Laws.Sums.{sumBelow-zero, sumBelow-suc, sumBelow-first, sumBelow-mono}
 use Rattle.keymap.proofs.Laws.Key.{Order, order, compare-lt, compare-refl, KeyOrder, keyOrder, compareKeys-refl}
 use Rattle.keymap.proofs.Laws.Begins.{prefix-iff, prefix-trans, prefix-length}
 use Rattle.keymap.proofs.Laws.Queries.{keep-iff, keep-ordered, isPrefixIn-iff}
@@ -50,7 +50,7 @@ indexOf-past p q ps n = go (keyOrder p q)
     go (KeyOrder.above e f) = rw e
 
 -- a key of the list stands at its index
-indexOf-in : (p : Key) (ps : List Key) → In p ps → (indexOf p ps < length ps) × (getD ps (indexOf p ps) [] ≡ p)
+pub indexOf-in : (p : Key) (ps : List Key) → In p ps → (indexOf p ps < length ps) × (getD ps (indexOf p ps) [] ≡ p)
 indexOf-in p [] h = absurd (List·Memᴰ·not-nil h)
 indexOf-in p (q ∷ ps) h = go (decKey p q) (λ i. indexOf-in p ps i)
   where
@@ -128,6 +128,12 @@ flatMap-run g (p ∷ ps) (suc k) j h l =
     rw at
     (getD-append-add (g p) (flatMap g ps) (sumBelow (λ i. length (g (getD ps i []))) k + j) [] ∙ flatMap-run g ps k j (le-of-suc-le-suc h) l)
 
+length-flatMap : (g : Key → List Key) (ps : List Key) → length (flatMap g ps) ≡ sumBelow (λ i. length (g (getD ps i []))) (length ps)
+unfolding flatMap
+length-flatMap g [] = sym (sumBelow-zero (λ i. length (g (getD [] i []))))
+length-flatMap g (p ∷ ps) =
+    omega (arith, length-append (g p) (flatMap g ps), length-flatMap g ps, sumBelow-first (λ i. length (g (getD (p ∷ ps) i []))) (length ps))
+
 -- the degrees of the nodes, by index
 abbrev pub degreeAt : Map → ℕ → ℕ
 degreeAt m i = degree m (pathOf m (suc i))
@@ -138,6 +144,14 @@ pub pathOf-child : (m : Map) → Catalogue m → (i j : ℕ) → i < length (nod
 unfolding pathOf nodes degree
 pathOf-child m c i j h l =
     ap (λ (ps : List Key). getD ps (sumBelow (degreeAt m) i + j) []) (prefixes-children m c) ∙ flatMap-run (childrenIn m) ([] ∷ prefixes m) i j h l
+
+-- and it is a node
+pub child-inside : (m : Map) → Catalogue m → (i j : ℕ) → i < length (nodes m) → j < degreeAt m i → IsNode m (suc (suc (sumBelow (degreeAt m) i + j)))
+unfolding pathOf nodes degree
+child-inside m c i j h l =
+    let all : length (prefixes m) ≡ sumBelow (degreeAt m) (length (nodes m)) =
+    ap length (prefixes-children m c) ∙ length-flatMap (childrenIn m) ([] ∷ prefixes m) in
+    (omega arith, omega (arith, all, sumBelow-suc (degreeAt m) i, sumBelow-mono (degreeAt m) {i = suc i} {j = length (nodes m)} h))
 
 -- ---- what a node's children are
 

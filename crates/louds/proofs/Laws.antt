@@ -1,3 +1,4 @@
+-- The laws of the definitions, a file for each file of specs/, and navigation on the image of a map. Assumes nothing.
 pub mod Rank
 pub mod Select
 pub mod Nodes

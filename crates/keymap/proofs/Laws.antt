@@ -19,3 +19,4 @@ pub mod Image
 pub mod Queries
 pub mod Prefixes
 pub mod Paths
+pub mod Common

@@ -12,6 +12,8 @@
 --     usedCount     how many records are in use, the root left out
 --     InUse         a record is in use
 --     Node          a record is the root or in use
+--     nextRecord    the record that is taken next
+--     taken         the pool with the root's words brought up to date: a record is taken
 --     capacity      how many records besides the root there may be
 use Prim.Native.Nat.{ℕ, _+_, _-_, _*_, _/_, _<_, _≤_, min}
 use mathlib.Core.Path.{_≡_}
@@ -72,6 +74,12 @@ InUse p c = (0 < c) × (c ≤ lastRecord p)
 
 abbrev pub Node : Pool → ℕ → Type 0
 Node p c = (c ≡ 0) ⊎ InUse p c
+
+unfoldable pub nextRecord : Pool → ℕ
+nextRecord p = lastRecord p + 1
+
+unfoldable pub taken : Pool → ℕ → Pool
+taken p m = put p 0 0 m
 
 -- the smaller of 4,096 and (length / 5, rounded down) - 1
 abbrev pub capacity : Pool → ℕ

@@ -1,0 +1,29 @@
+-- `pool::words::mark` meets its contract. Assumes nothing.
+use borrow.Author.Needs.{needs}
+use Rattle.pool.specs.Entering.{marked}
+use Rattle.pool.proofs.words.mark.Statement.{statement}
+use Rattle.pool.proofs.words.mark.Tie as tie
+
+label-of-requires : tie.Need-label-of-requires
+label-of-requires c κs = search needs
+
+add-e : tie.Need-add-e
+add-e c = search needs
+
+set-word-requires : tie.Need-set-word-requires
+set-word-requires c κs = search needs
+
+set-word-requires-2 : tie.Need-set-word-requires-2
+set-word-requires-2 c κs = search needs
+
+same-length : tie.Need-same-length
+same-length c = search needs
+
+returns : tie.Need-returns
+unfolding marked
+returns c = cc
+
+pub mark-spec : {M : Type 1} → statement M
+mark-spec =
+    tie.close
+    (tie.spec label-of-requires add-e set-word-requires set-word-requires-2 same-length returns)

@@ -1,0 +1,30 @@
+-- The answers in 01's numbers: done is 0, a count n is 0 and n, a refusal is its number.
+use Prim.Native.Nat.{ℕ}
+use mathlib.Core.Bool.{Bool, false}
+use mathlib.Core.List.{List, [], _∷_}
+use lib.Dec.{eqb}
+use Rattle.keymap.specs.Refusals.{Refusal, refusalNumber}
+use Rattle.pool.specs.declared.answers.Cleared.{Cleared}
+use Rattle.pool.specs.declared.answers.Counted.{Counted}
+use Rattle.pool.specs.declared.answers.Pushed.{Pushed}
+
+abbrev pub saidReset : Cleared → List ℕ
+saidReset Cleared.Done = 0 ∷ []
+saidReset Cleared.PoolTooSmall = refusalNumber Refusal.PoolTooSmall ∷ []
+
+abbrev pub saidUseCount : Counted → List ℕ
+saidUseCount (Counted.Records n) = 0 ∷ n ∷ []
+saidUseCount Counted.PoolTooSmall = refusalNumber Refusal.PoolTooSmall ∷ []
+saidUseCount Counted.NotAPool = refusalNumber Refusal.NotAPool ∷ []
+
+abbrev pub saidPushed : Pushed → List ℕ
+saidPushed Pushed.Done = 0 ∷ []
+saidPushed Pushed.PoolTooSmall = refusalNumber Refusal.PoolTooSmall ∷ []
+saidPushed Pushed.NotAPool = refusalNumber Refusal.NotAPool ∷ []
+saidPushed Pushed.EmptyKey = refusalNumber Refusal.EmptyKey ∷ []
+saidPushed Pushed.NoRoom = refusalNumber Refusal.NoRoom ∷ []
+
+-- it is no refusal
+abbrev pub accepted : List ℕ → Bool
+accepted [] = false
+accepted (n ∷ ns) = eqb n 0

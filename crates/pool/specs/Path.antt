@@ -1,0 +1,38 @@
+-- How far a key leads down the records: "Push walks the key" (01).
+--
+--     reachOf         the record that is reached, and how many bytes led there
+--     missingLabels   how many of the key's prefixes are not yet present
+--     Leads           some bytes lead from one record to another
+use Prim.Native.Nat.{ℕ, _+_, _-_, _<_}
+use mathlib.Core.Path.{_≡_}
+use mathlib.Core.Bool.{cond}
+use mathlib.Core.List.{[], _∷_}
+use lib.ListN.{length}
+use lib.Dec.{eqb}
+use Rattle.keymap.specs.Key.{Key}
+use Rattle.records.specs.Words.{Pool}
+use Rattle.pool.specs.declared.path.Reach.{Reach}
+use Rattle.pool.specs.Siblings.{childAt}
+
+abbrev pub reached : ℕ → ℕ → Reach
+reached i d = record { at = i; depth = d }
+
+-- from record i on, which d bytes led to
+unfoldable pub reachFrom : Pool → (i d : ℕ) → Key → Reach
+reachFrom p i d [] = reached i d
+reachFrom p i d (b ∷ bs) = cond (eqb (childAt p i b) 0) (reached i d) (reachFrom p (childAt p i b) (d + 1) bs)
+
+unfoldable pub reachOf : Pool → Key → Reach
+reachOf p key = reachFrom p 0 0 key
+
+unfoldable pub missingLabels : Pool → Key → ℕ
+missingLabels p key = length key - reachOf p key .depth
+
+abbrev pub Leads : Pool → ℕ → Key → ℕ → Type 0
+Leads p i [] j = i ≡ j
+Leads p i (b ∷ bs) j = (0 < childAt p i b) × Leads p (childAt p i b) bs j
+
+-- the first of these bytes leads nowhere from record i
+abbrev pub Ends : Pool → ℕ → Key → Type 0
+Ends p i [] = Unit {0}
+Ends p i (b ∷ bs) = childAt p i b ≡ 0

@@ -10,12 +10,16 @@ pub mod Degrees
 pub mod Forest
 pub mod Listing
 pub mod BreadthFirst
+pub mod Items
 pub mod Emitted
 pub mod Decode
 pub mod Levels
 pub mod Children
 pub mod LevelOrder
 pub mod Image
+pub mod Rebuilt
+pub mod Entries
+pub mod Shape
 pub mod Queries
 pub mod Prefixes
 pub mod Paths

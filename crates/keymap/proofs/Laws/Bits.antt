@@ -1,6 +1,7 @@
 -- Bits packed into words and read back. A word is told by its 64 digits, and a pack's digits are the bits that were packed;
 -- so packing and unpacking undo each other where bits are 0 or 1, words below 2^64 and unused bits 0.
 --
+--     high-none       a number without digits from a place on is 0 there
 --     bit-small       a bit is at most 1
 --     bit-in          a bit by its word and its place in the word
 --     bit-beyond      beyond the last word every bit is 0
@@ -23,7 +24,7 @@ use mathlib.Core.Path.{_≡_, refl, sym, ap, ap₂, _∙_, subst}
 use mathlib.Core.Logic.{⊎-elim}
 use mathlib.Core.List.{List}
 use Prim.Native.Nat.{ℕ, zero, suc, _+_, _-_, _*_, _/_, _%_, _^_, _≤_, _<_, zero-le}
-use native.Mathlib.Nat.{le-trans, le-suc, le-of-suc-le-suc, not-suc-le-zero, zero-lt-suc, lt-suc-self, lt-of-le-of-lt, eq-or-lt-of-le, mod-lt, mod-eq-of-lt, mod-one, add-comm, add-zero, zero-add, zero-div}
+use native.Mathlib.Nat.{le-trans, le-suc, le-of-suc-le-suc, not-suc-le-zero, zero-lt-suc, lt-suc-self, lt-of-le-of-lt, eq-or-lt-of-le, mod-lt, mod-eq-of-lt, mod-one, add-comm, add-zero, zero-add, zero-div, zero-mod}
 use native.Mathlib.Decide.{decLt}
 use native.Mathlib.Numerals.{one-add}
 use native.Mathlib.Omega.{arith}
@@ -31,7 +32,7 @@ use lib.Dec.{lit<}
 use lib.Arith.{digits-lt, digits-div, digits-mod}
 use lib.ListN.{length, getD, List·getD-eq-default}
 use lib.Seq.{ext-getD}
-use lib.Pow.{pow-pos, pow-add, mod-pow-add, mod-mod-pow, field, high, low}
+use lib.Pow.{pow-pos, pow-add, mod-pow-add, mod-mod-pow, shr-mod, shr-shr, field, high, low}
 use Rattle.keymap.specs.Limits.{wordBits}
 use Rattle.keymap.specs.Bits.{bit, sumBelow, table, number, wordsFor, pack, unpack}
 use Rattle.keymap.proofs.Laws.Sums.{sumBelow-suc}
@@ -54,6 +55,13 @@ digits-ext x y (suc d) h =
     ∙ ap₂ (λ (p q : ℕ). p * 2 ^ d + q) (h d (lt-suc-self d)) (digits-ext x y d (λ j l. h j (le-trans l (le-suc d))))
     ∙ sym (mod-pow-add y 1 d)
     ∙ ap (λ (n : ℕ). y % 2 ^ n) (one-add d)
+
+-- a number of r + u digits without any from u on is 0 there
+pub high-none : (x u r : ℕ) → x < 2 ^ (r + u) → ((j : ℕ) → j < r → x / 2 ^ (u + j) % 2 ≡ 0) → x / 2 ^ u ≡ 0
+high-none x u r l h =
+    sym (shr-mod r u l)
+    ∙ digits-ext (x / 2 ^ u) 0 r (λ j b. ap (λ (y : ℕ). y % 2) (shr-shr x u j) ∙ h j b ∙ sym (ap (λ (y : ℕ). y % 2) (zero-div (2 ^ j))))
+    ∙ zero-mod (2 ^ r)
 
 -- ---- bits of words
 

@@ -1,0 +1,3 @@
+-- The laws of the definitions, a file for each file of specs/. Assumes nothing.
+pub mod Spelled
+pub mod Accept

@@ -1,0 +1,1 @@
+// The image of a map in lent slices.

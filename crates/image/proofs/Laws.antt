@@ -1,3 +1,4 @@
 -- The laws of the definitions, a file for each file of specs/. Assumes nothing.
 pub mod Spelled
 pub mod Accept
+pub mod AcceptTest

@@ -29,7 +29,7 @@ use Rattle.keymap.specs.Forest.{Forest, Orderly, ByteLabels}
 use Rattle.keymap.specs.BreadthFirst.{forestImage}
 use Rattle.keymap.specs.Decode.{decode, imageMap}
 use Rattle.keymap.proofs.Laws.Sums.{sumBelow-zero, sumBelow-suc, sumBelow-lt, sumBelow-mono}
-use Rattle.keymap.proofs.Laws.Bits.{bit-small, length-unpack, getD-unpack, unpack-small, pack-unpack}
+use Rattle.keymap.proofs.Laws.Bits.{bit-small, bit-either, length-unpack, getD-unpack, unpack-small, pack-unpack}
 use Rattle.keymap.proofs.Laws.Degrees.{sequence-unary, unary-degreesFrom, length-sequence}
 use Rattle.keymap.proofs.Laws.Rebuilt.{Told}
 use Rattle.keymap.proofs.Laws.Shape.{Shape, shape-image, shape-orderly, shape-bytes, shape-map, shape-few, shape-catalogue, map-shape}
@@ -112,6 +112,16 @@ module _ (i : Image) (d : ℕ) (ds : List ℕ) (c : Shape i d ds) where
             some = c .live e (omega arith) u;
           }
 
+-- a one is a node, and its parent is the count of zeros before it
+pub one-parent : (i : Image) (p m : ℕ) → p < bitsFor (entries i) → bit (i .words) p ≡ 1 → onesBefore (bit (i .words)) p + 1 ≡ m
+    → parentIn i m ≡ Node (zerosBefore (bit (i .words)) p)
+one-parent i p m h e r =
+    let b = bit (i .words) in
+    let len : ℕ = bitsFor (entries i) in
+    ap (parentIn i) (sym r)
+    ∙ parent-at b (bit-small (i .words)) len (onesBefore b p + 1) p (kth-rank b (bit-small (i .words)) len p h e)
+    ∙ ap Node (omega (arith, ones-zeros b (bit-small (i .words)) p))
+
 -- ---- an accepted image has the shape
 
 module _ (i : Image) (a : Accepted i) where
@@ -124,35 +134,24 @@ module _ (i : Image) (a : Accepted i) where
   abbrev small : (p : ℕ) → b p ≤ 1
   small = bit-small (i .words)
 
-  -- a one is a node, and its parent is the count of zeros before it
-  up : (p : ℕ) → p < bitsFor n → b p ≡ 1 → parentIn i (onesBefore b p + 1) ≡ Node (zerosBefore b p)
-  up p h e = parent-at b small (bitsFor n) (onesBefore b p + 1) p (kth-rank b small (bitsFor n) p h e) ∙ ap Node (omega (arith, ones-zeros b small p))
-
-  -- so a one other than the first has from 1 to as many zeros before it as ones
-  climbs : (p : ℕ) → p < bitsFor n → b p ≡ 1 → 1 ≤ onesBefore b p → (1 ≤ zerosBefore b p) × (zerosBefore b p ≤ onesBefore b p)
-  climbs p h e o =
+  -- a one other than the first has from 1 to as many zeros before it as ones
+  pub accepted-climbs : (p : ℕ) → p < bitsFor n → b p ≡ 1 → 1 ≤ onesBefore b p → (1 ≤ zerosBefore b p) × (zerosBefore b p ≤ onesBefore b p)
+  accepted-climbs p h e o =
       let few = sumBelow-mono b {i = suc p} {j = bitsFor n} h in
       let q = a .parents (onesBefore b p + 1) (omega arith) (omega (arith, a .ones, sumBelow-suc b p)) in
-      let u = up p h e in
+      let u = one-parent i p (onesBefore b p + 1) h e refl in
       let s = q .is in
       let z : q .number ≡ zerosBefore b p = cc in
       (omega (arith, q .low), omega (arith, q .high))
 
-  one-or-zero : (p : ℕ) → (b p ≡ 1) ⊎ (b p ≡ 0)
-  one-or-zero p = go (decLe 1 (b p))
-    where
-      go : Dec (1 ≤ b p) → (b p ≡ 1) ⊎ (b p ≡ 0)
-      go (yes h) = inl (omega (arith, small p))
-      go (no h) = inr (omega arith)
-
-  second-zero : b 1 ≡ 0
-  second-zero = ⊎-elim (λ e. absurd (omega (arith, climbs 1 (omega arith) e (omega (arith, first-one)) .0, first-one, ones-zeros b small 1))) (λ e. e) (one-or-zero 1)
+  pub accepted-second : b 1 ≡ 0
+  accepted-second = ⊎-elim (λ e. absurd (omega (arith, accepted-climbs 1 (omega arith) e (omega (arith, first-one)) .0, first-one, ones-zeros b small 1))) (λ e. e) (bit-either (i .words) 1)
     where
       first-one : onesBefore b 1 ≡ 1
       first-one = sumBelow-suc b 0 ∙ omega (arith, sumBelow-zero b, a .first)
 
   last-zero : b (2 * n + 2) ≡ 0
-  last-zero = ⊎-elim (λ e. absurd (never e)) (λ e. e) (one-or-zero (2 * n + 2))
+  last-zero = ⊎-elim (λ e. absurd (never e)) (λ e. e) (bit-either (i .words) (2 * n + 2))
     where
       all : onesBefore b (2 * n + 2) + b (2 * n + 2) ≡ n + 1
       all = sym (sumBelow-suc b (2 * n + 2)) ∙ ap (onesBefore b) (omega arith) ∙ a .ones
@@ -161,7 +160,7 @@ module _ (i : Image) (a : Accepted i) where
       some-before = omega (arith, sumBelow-mono b {i = 1} {j = 2 * n + 2} (omega arith), sumBelow-suc b 0, sumBelow-zero b, a .first)
 
       never : b (2 * n + 2) ≡ 1 → ⊥
-      never e = omega (arith, climbs (2 * n + 2) (omega arith) e some-before .1, all, ones-zeros b small (2 * n + 2))
+      never e = omega (arith, accepted-climbs (2 * n + 2) (omega arith) e some-before .1, all, ones-zeros b small (2 * n + 2))
 
   -- what the bits behind 1, 0 spell
   spells : List ℕ
@@ -171,7 +170,7 @@ module _ (i : Image) (a : Accepted i) where
   unfolding spells unpack table degreesFrom
   spells-behind =
       let two-more : bitsFor n ≡ suc (suc (2 * n + 1)) = omega arith in
-      ap (λ (x : ℕ). degreesFrom 0 (unpack x (i .words))) two-more ∙ ap₂ (λ (x y : ℕ). degreesFrom 0 (x ∷ y ∷ table b 2 (2 * n + 1))) (a .first) second-zero
+      ap (λ (x : ℕ). degreesFrom 0 (unpack x (i .words))) two-more ∙ ap₂ (λ (x y : ℕ). degreesFrom 0 (x ∷ y ∷ table b 2 (2 * n + 1))) (a .first) accepted-second
 
   bits-sequence : unpack (bitsFor n) (i .words) ≡ sequence spells
   bits-sequence =

@@ -3,6 +3,7 @@
 --
 --     high-none       a number without digits from a place on is 0 there
 --     bit-small       a bit is at most 1
+--     bit-either      so it is 1 or 0
 --     bit-in          a bit by its word and its place in the word
 --     bit-beyond      beyond the last word every bit is 0
 --     words-ext       words of one length with the same bits are the same
@@ -21,7 +22,7 @@
 --
 -- Assumes nothing.
 use mathlib.Core.Path.{_≡_, refl, sym, ap, ap₂, _∙_, subst}
-use mathlib.Core.Logic.{⊎-elim}
+use mathlib.Core.Logic.{_⊎_, inl, inr, ⊎-elim}
 use mathlib.Core.List.{List}
 use Prim.Native.Nat.{ℕ, zero, suc, _+_, _-_, _*_, _/_, _%_, _^_, _≤_, _<_, zero-le}
 use native.Mathlib.Nat.{le-trans, le-suc, le-of-suc-le-suc, not-suc-le-zero, zero-lt-suc, lt-suc-self, lt-of-le-of-lt, eq-or-lt-of-le, mod-lt, mod-eq-of-lt, mod-one, add-comm, add-zero, zero-add, zero-div, zero-mod}
@@ -68,6 +69,14 @@ high-none x u r l h =
 pub bit-small : (ws : List ℕ) (i : ℕ) → bit ws i ≤ 1
 unfolding bit
 bit-small ws i = le-of-suc-le-suc (mod-lt (getD ws (i / wordBits) 0 / 2 ^ (i % wordBits)) (zero-lt-suc 1))
+
+pub bit-either : (ws : List ℕ) (i : ℕ) → (bit ws i ≡ 1) ⊎ (bit ws i ≡ 0)
+bit-either ws i = go (bit ws i) (bit-small ws i)
+  where
+    go : (x : ℕ) → x ≤ 1 → (x ≡ 1) ⊎ (x ≡ 0)
+    go zero h = inr refl
+    go (suc zero) h = inl refl
+    go (suc (suc x)) h = absurd (omega arith)
 
 pub bit-in : (ws : List ℕ) (w j : ℕ) → j < wordBits → bit ws (w * wordBits + j) ≡ getD ws w 0 / 2 ^ j % 2
 unfolding bit

@@ -4,6 +4,7 @@
 --     Bytes         every element of it is a byte
 --     compareKeys   byte order
 --     Below         the first key stands below the second in it; `isBelow` as a test
+--     sameKey       two keys are one, as a test
 --     PrefixOf      the second key begins with the first; `beginsWith` as a test
 --     extends       it begins with it and is longer
 --     commonPrefix  the longest common prefix of two keys
@@ -42,6 +43,9 @@ Below x y = compareKeys x y ≡ Ordering·lt
 
 abbrev pub isBelow : Key → Key → Bool
 isBelow x y = pick (compareKeys x y) true false false
+
+abbrev pub sameKey : Key → Key → Bool
+sameKey x y = pick (compareKeys x y) false true false
 
 unfoldable pub beginsWith : Key → Key → Bool
 beginsWith [] k = true

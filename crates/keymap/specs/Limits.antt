@@ -1,4 +1,4 @@
--- The numbers of 01 that more than one definition cites.
+-- The numbers of 01, each once.
 -- Assumes nothing.
 use Prim.Native.Nat.{ℕ, _^_}
 

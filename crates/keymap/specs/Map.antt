@@ -2,7 +2,7 @@
 --
 --     Rising        the keys strictly rise
 --     Proper        the keys are nonempty and of bytes, the values of 32 bits
---     Catalogue     both: what a pool can hold and an image can stand for
+--     Catalogue     both; a pool or an image holds it if its distinct prefixes are at most `mostRecords` besides
 --     insert        the map with a key's value set, whether it was there or not
 --     insertAll     the same for entries in turn: of one key the last value stays
 --     lookup        the value of a key

@@ -6,11 +6,11 @@
 --     nodeOf        the number of the node at a path
 -- Assumes nothing.
 use Prim.Native.Nat.{ℕ, zero, suc, _≤_}
-use mathlib.Core.Bool.{Bool, _&&_}
+use mathlib.Core.Bool.{Bool, cond, _&&_}
 use mathlib.Core.List.{List, [], _∷_}
 use lib.ListN.{length, getD}
 use lib.Dec.{leb}
-use Rattle.keymap.specs.Key.{Key, compareKeys, pick}
+use Rattle.keymap.specs.Key.{Key, sameKey}
 use Rattle.keymap.specs.Map.{Map}
 use Rattle.keymap.specs.Prefixes.{prefixes}
 
@@ -27,10 +27,10 @@ unfoldable pub pathOf : Map → ℕ → Key
 pathOf m zero = []
 pathOf m (suc i) = getD (nodes m) i []
 
--- how many keys of a list stand before p
+-- the index of p in a list, the list's length where p is not there
 unfoldable pub indexOf : Key → List Key → ℕ
 indexOf p [] = 0
-indexOf p (q ∷ ps) = pick (compareKeys p q) (suc (indexOf p ps)) 0 (suc (indexOf p ps))
+indexOf p (q ∷ ps) = cond (sameKey p q) 0 (suc (indexOf p ps))
 
 unfoldable pub nodeOf : Map → Key → ℕ
 nodeOf m p = suc (indexOf p (nodes m))

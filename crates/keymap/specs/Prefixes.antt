@@ -13,14 +13,14 @@ use mathlib.Core.Bool.{cond, not}
 use mathlib.Core.List.{List, [], _∷_, _++_, map}
 use lib.ListN.{length, take}
 use lib.Dec.{leb}
-use Rattle.keymap.specs.Key.{Key, compareKeys, pick, Below}
+use Rattle.keymap.specs.Key.{Key, Below, sameKey}
 use Rattle.keymap.specs.Map.{Map}
 use Rattle.keymap.specs.Queries.{keep, nonempty, beginning}
 
 -- p before ps, unless ps begins with it already
 abbrev pub once : Key → List Key → List Key
 once p [] = p ∷ []
-once p (q ∷ ps) = pick (compareKeys p q) (p ∷ q ∷ ps) (q ∷ ps) (p ∷ q ∷ ps)
+once p (q ∷ ps) = cond (sameKey p q) (q ∷ ps) (p ∷ q ∷ ps)
 
 unfoldable pub level : ℕ → Map → List Key
 level d [] = []

@@ -1,4 +1,4 @@
--- What 01 asks of a map (modules 5 to 7). Any engine that answers from a map is held to these; the exact match is `lookup`.
+-- What 01 asks of a map (modules 5 and 6; goto of module 7 is `commonOfAll` of `longer`). Any engine that answers from a map is held to these; the exact match is `lookup`.
 --
 --     beginning        the predictive listing of a query: the keys that begin with it
 --     longer           its postfix listing: those that are longer besides

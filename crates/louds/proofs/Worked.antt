@@ -1,11 +1,11 @@
--- The document's map A, "ab" 7 and "b" 3, and the five keys of `src/map/trie.rs`: "a", "app", "apple", "better", "application".
+-- The document's map A, "ab" 7 and "b" 3, and the five keys of `src/map/trie.rs`: "a", "app", "apple", "better", "application". That these are their words is
+-- `worked-images` of keymap.
 -- Each is one computed statement over a table of its nodes: a row has a number, the children and the parent.
 -- Past the last node stand the row of the last zero, which closes an empty run, and one of a number that no bit has. Assumes nothing.
 use mathlib.Core.Path.{_≡_, refl}
 use mathlib.Core.List.{List, [], _∷_, map}
 use Prim.Native.Nat.{ℕ}
-use Rattle.keymap.specs.Bits.{bit, sumBelow, table, number, pack}
-use Rattle.keymap.specs.Degrees.{unary, sequence}
+use Rattle.keymap.specs.Bits.{bit, sumBelow}
 use Rattle.louds.specs.declared.Kids.{Kids}
 use Rattle.louds.specs.declared.Kids.the-variants.{Run, NoNode}
 use Rattle.louds.specs.declared.Up.{Up}
@@ -32,10 +32,6 @@ mapA =
     ∷ (5, Run 5 0, NoOne)
     ∷ (6, NoNode, NoOne)
     ∷ []
-
-pub mapA-words : pack (sequence (2 ∷ 1 ∷ 0 ∷ 0 ∷ [])) ≡ 45 ∷ []
-unfolding pack table number sumBelow sequence unary
-mapA-words = refl
 
 pub mapA-nodes : answers (45 ∷ []) 9 mapA ≡ mapA
 unfolding bit gap sumBelow kth orEnd runFrom childrenOf upFrom parentOf
@@ -67,10 +63,6 @@ fruit =
     ∷ (20, Run 20 0, NoOne)
     ∷ (21, NoNode, NoOne)
     ∷ []
-
-pub fruit-words : pack (sequence (2 ∷ 1 ∷ 1 ∷ 1 ∷ 1 ∷ 1 ∷ 1 ∷ 2 ∷ 1 ∷ 0 ∷ 1 ∷ 1 ∷ 1 ∷ 0 ∷ 1 ∷ 1 ∷ 1 ∷ 1 ∷ 0 ∷ [])) ≡ 91445701293 ∷ []
-unfolding pack table number sumBelow sequence unary
-fruit-words = refl
 
 pub fruit-nodes : answers (91445701293 ∷ []) 39 fruit ≡ fruit
 unfolding bit gap sumBelow kth orEnd runFrom childrenOf upFrom parentOf

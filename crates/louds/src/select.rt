@@ -33,7 +33,7 @@ pub fn zero_at(words: &[u64], len: usize, k: usize) -> Spot
     zero_from(words, len, 0, k)
 }
 
-// The k-th zero at `from` or beyond; no bit before `from` is read. Just past the j-th zero it is the zero j + k of the sequence.
+// The k-th zero at `from` or beyond; bits before `from` do not count. Just past the j-th zero it is the zero j + k of the sequence.
 pub fn zero_from(words: &[u64], len: usize, from: usize, k: usize) -> Spot
     ensures { λ r. ⌜ r ≡ zeroFrom (bit (now (words .entry))) len from k ⌝ }
 {

@@ -216,7 +216,11 @@ paths-prefixes f s =
     let n = deepest m in
     let top : pathsBelow f [] ≡ level 1 m = paths-top f ∙ sym (level-floor f s 0) in
     let ends : level (n + 1) m ≡ [] = level-deep (n + 1) m (omega arith) in
-    rw (top, levels-next n 0 f s) (sym (levels-first n 1 m) ∙ levels-last n 1 m ∙ rw (ends, append-nil))
+    ap₂ (λ (x y : List Key). x ++ y) top (levels-next n 0 f s)
+    ∙ sym (levels-first n 1 m)
+    ∙ levels-last n 1 m
+    ∙ ap (λ (l : List Key). levels n 1 m ++ l) ends
+    ∙ append-nil (levels n 1 m)
 
 flatMap-cong : {A B : Type 0} (g h : A → List B) → ((x : A) → g x ≡ h x) → (xs : List A) → flatMap g xs ≡ flatMap h xs
 unfolding flatMap

@@ -2,6 +2,7 @@
 --
 --     order                how two numbers stand
 --     keyOrder             how two keys stand
+--     below-byte           the lower byte stands first
 --     compareKeys-refl     a key stands with itself
 --     compareKeys-trans    below what is below is below
 -- Assumes nothing.
@@ -37,6 +38,16 @@ compare-gt a b h = elim (order a b) [ below l e f ↦ absurd (omega arith) | sam
 
 pub compare-refl : (a : ℕ) → compare a a ≡ Ordering·eq
 compare-refl a = elim (order a a) [ below l e f ↦ absurd (omega arith) | same l e ↦ e | above l e f ↦ absurd (omega arith) ]
+
+-- byte order: the lower byte stands first, whatever follows
+pub below-byte : (a b : ℕ) (x y : Key) → a < b → Below (a ∷ x) (b ∷ y)
+unfolding compareKeys
+below-byte a b x y l = rw (compare-lt a b l)
+
+-- and a key stands before all that begin with it
+pub below-longer : (b : ℕ) (y : Key) → Below [] (b ∷ y)
+unfolding compareKeys
+below-longer b y = refl
 
 pub compareKeys-refl : (x : Key) → compareKeys x x ≡ Ordering·eq
 unfolding compareKeys

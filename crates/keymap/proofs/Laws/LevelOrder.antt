@@ -15,6 +15,7 @@ use Rattle.keymap.specs.Map.{Map, Catalogue, lookup}
 use Rattle.keymap.specs.Prefixes.{prefixes}
 use Rattle.keymap.specs.Label.{labelEntry, valueWord}
 use Rattle.keymap.specs.Bits.{pack}
+use Rattle.keymap.specs.Degrees.{sequence}
 use Rattle.keymap.specs.Image.{Image, degree, imageBits, imageLabels, imageValues, image}
 use Rattle.keymap.specs.Forest.{Forest, empty, node, Tree, branch, descend, valueAt, listForest, listTree, Orderly, size, width, treeOf}
 use Rattle.keymap.specs.BreadthFirst.{Row, rows, rowLabel, rowValue, rowDegree, forestBits, forestImage}
@@ -121,7 +122,7 @@ look f s p = lookup-listTree (none, f) s p ∙ valueAt-descend p (none, f)
 pub bits-forest : (f : Forest) → Orderly f → imageBits (listForest f) ≡ forestBits f
 unfolding imageBits forestBits descend itemFrom
 bits-forest f s =
-    rw (degree-width f s [], rows-say f s rowDegree (degree (listForest f)) (λ p. degree-width f s p))
+    ap₂ (λ (d : ℕ) (ds : List ℕ). sequence (d ∷ ds)) (degree-width f s []) (rows-say f s rowDegree (degree (listForest f)) (λ p. degree-width f s p))
 
 labels-forest : (f : Forest) → Orderly f → imageLabels (listForest f) ≡ map rowLabel (rows f)
 unfolding imageLabels itemFrom

@@ -4,18 +4,21 @@
 --     lookup-insert-same    it has the value set, and `lookup-insert-other` the values of other keys
 --     insert-iff            the same of its entries
 --     insert-comm           different keys go in in either order
+--     insertAll-last        of entries in turn the last is inserted last
+--     insert-catalogue      an insert of a nonempty key keeps a catalogue
 --     map-ext               two maps with the same look-ups are one list, and `map-members` with the same entries
 --     rising-iff            each entry stands below all behind it
 --     lookup-iff            a key has a value exactly if the two are an entry, and `lookup-none` no value if no entry has it
 --
 -- Assumes nothing.
 use mathlib.Core.Path.{_≡_, refl, sym, ap, _∙_}
-use Prim.Native.Nat.{ℕ, Ordering, Ordering·lt, Ordering·eq, Ordering·gt}
-use mathlib.Core.List.{List, [], _∷_, List-discrete, Memᴰ·cast, List·Memᴰ·cases-cons, List·Memᴰ·not-nil}
+use Prim.Native.Nat.{ℕ, _<_, Ordering, Ordering·lt, Ordering·eq, Ordering·gt}
+use mathlib.Core.List.{List, [], _∷_, _++_, List-discrete, Memᴰ·cast, List·Memᴰ·cases-cons, List·Memᴰ·not-nil}
 use native.Mathlib.Decide.{ℕ-discrete}
 use mathlib.Core.Option.{none, some, Option, Option·none-ne-some, Option·some-injective}
-use Rattle.keymap.specs.Key.{Key, compareKeys, Below}
-use Rattle.keymap.specs.Map.{Map, Before, Rising, insert, lookup, Entry, Under, Proper}
+use Rattle.keymap.specs.Limits.{valueLimit}
+use Rattle.keymap.specs.Key.{Key, compareKeys, Below, Bytes}
+use Rattle.keymap.specs.Map.{Map, Before, Rising, insert, lookup, Entry, Under, Proper, Catalogue, insertAll}
 use Rattle.keymap.proofs.Laws.Key.{KeyOrder, keyOrder, compareKeys-refl, compareKeys-trans, below-irrefl, below-asym}
 use mathlib.Core.Logic.{_↔_, _⊎_, inl, inr, ⊎-elim}
 use Rattle.keymap.specs.Members.{In, here, there, Ordered}
@@ -217,3 +220,31 @@ unfolding lookup compareKeys
 lookup-empty [] p = refl
 lookup-empty (([], v) ∷ m) p = absurd (p .0 refl)
 lookup-empty ((a ∷ k, v) ∷ m) p = refl
+
+-- ---- inserts in turn
+
+-- what comes last is inserted last
+pub insertAll-last : (es : Map) (k : Key) (v : ℕ) (m : Map) → insertAll (es ++ ((k, v) ∷ [])) m ≡ insert k v (insertAll es m)
+unfolding insertAll
+insertAll-last [] k v m = refl
+insertAll-last (e ∷ es) k v m = insertAll-last es k v (insert (e .0) (e .1) m)
+
+pub insertAll-rising : (es m : Map) → Rising m → Rising (insertAll es m)
+unfolding insertAll
+insertAll-rising [] m r = r
+insertAll-rising (e ∷ es) m r = insertAll-rising es (insert (e .0) (e .1) m) (insert-rising (e .0) (e .1) m r)
+
+-- ---- what a catalogue may hold
+
+insert-proper : (k : Key) (v : ℕ) (m : Map) → ¬ (k ≡ []) → Bytes k → v < valueLimit → Proper m → Proper (insert k v m)
+unfolding insert
+insert-proper k v [] n b l p = (n, b, l, tt)
+insert-proper k v (e ∷ m) n b l p = go (compareKeys k (e .0)) refl (insert-proper k v m n b l (p .3))
+  where
+    go : (o : Ordering) → compareKeys k (e .0) ≡ o → Proper (insert k v m) → Proper (insert k v (e ∷ m))
+    go Ordering·lt r ih = rw r (n, b, l, p)
+    go Ordering·eq r ih = rw r (n, b, l, p .3)
+    go Ordering·gt r ih = rw r (p .0, p .1, p .2, ih)
+
+pub insert-catalogue : (k : Key) (v : ℕ) (m : Map) → ¬ (k ≡ []) → Bytes k → v < valueLimit → Catalogue m → Catalogue (insert k v m)
+insert-catalogue k v m n b l c = record { rising = insert-rising k v m (c .rising); proper = insert-proper k v m n b l (c .proper) }

@@ -6,6 +6,7 @@
 --     pathOf-child                   the paths of a node's children, by their numbers
 --     childrenIn-iff                 they are the paths one byte longer with which some key begins
 --     childrenIn-some                there are some exactly if some longer key begins with the path
+--     childrenIn-ordered             in rising order, which is that of their last bytes: `below-label`
 --     labels-node, values-node       what the image says of a node
 -- Assumes nothing.
 use mathlib.Core.Path.{_≡_, refl, sym, ap, _∙_}
@@ -17,6 +18,8 @@ use mathlib.Core.List.{List, [], _∷_, _++_, map, flatMap, append-assoc, List·
 use mathlib.Core.Bool.{Bool, true, false, false≢true}
 use lib.ListN.{length, getD, List·getD-append, length-append}
 use lib.Seq.{getD-append-add}
+use lib.Dec.{leb}
+use borrow.Author.Tests.{leb-true, le-leb}
 use Rattle.keymap.specs.Members.{In, here, there, Ordered, Distinct}
 use Rattle.keymap.specs.Key.{Key, compareKeys, Below, beginsWith, lastByte}
 use Rattle.keymap.specs.Label.{labelEntry, valueWord}
@@ -25,10 +28,10 @@ use Rattle.keymap.specs.Queries.{keep, nonempty, SomeBegins, isPrefixIn}
 use Rattle.keymap.specs.Prefixes.{level, prefixes}
 use Rattle.keymap.specs.Bits.{sumBelow}
 use Rattle.keymap.specs.Image.{childrenIn, degree, imageLabels, imageValues}
-use Rattle.keymap.specs.Paths.{nodes, IsNode, pathOf, indexOf, nodeOf}
+use Rattle.keymap.specs.Paths.{nodes, IsNode, isNode, pathOf, indexOf, nodeOf}
 use Rattle.keymap.proofs.Laws.Sums.{sumBelow-zero, sumBelow-suc, sumBelow-first, sumBelow-mono}
 use Rattle.keymap.proofs.Laws.Key.{Order, order, compare-lt, compare-refl, KeyOrder, keyOrder, compareKeys-refl}
-use Rattle.keymap.proofs.Laws.Begins.{prefix-iff, prefix-trans, prefix-length}
+use Rattle.keymap.proofs.Laws.Begins.{both-true, prefix-iff, prefix-trans, prefix-length}
 use Rattle.keymap.proofs.Laws.Queries.{keep-iff, keep-ordered, isPrefixIn-iff}
 use Rattle.keymap.proofs.Laws.Map.{decKey}
 use Rattle.keymap.proofs.Laws.Prefixes.{level-iff, level-ordered, prefixes-iff, prefixes-distinct}
@@ -78,6 +81,12 @@ indexOf-getD (p ∷ ps) o (suc i) h =
 pub pathOf-root : (m : Map) → pathOf m 1 ≡ []
 unfolding pathOf nodes
 pathOf-root m = refl
+
+pub isNode-iff : (m : Map) (k : ℕ) → (isNode m k ≡ true) ↔ IsNode m k
+unfolding isNode
+isNode-iff m k =
+    let both = both-true (leb 1 k) (leb k (length (nodes m))) in
+    (λ h. let (l, u) = both .0 h in (leb-true _ _ l, leb-true _ _ u), λ h. both .1 (le-leb _ _ (h .0), le-leb _ _ (h .1)))
 
 pub pathOf-in : (m : Map) (k : ℕ) → IsNode m k → In (pathOf m k) (nodes m)
 unfolding pathOf
@@ -228,7 +237,7 @@ childrenIn-some m p = tests-same (nonempty (childrenIn m p)) (isPrefixIn p m) lo
 -- ---- what an image says of a node
 
 -- inside a list what stands beyond it does not matter
-getD-map : (f : Key → ℕ) (ps : List Key) (i : ℕ) → i < length ps → getD (map f ps) i 0 ≡ f (getD ps i [])
+pub getD-map : (f : Key → ℕ) (ps : List Key) (i : ℕ) → i < length ps → getD (map f ps) i 0 ≡ f (getD ps i [])
 getD-map f [] i h = absurd (not-suc-le-zero h)
 getD-map f (p ∷ ps) zero h = refl
 getD-map f (p ∷ ps) (suc i) h = getD-map f ps i (le-of-suc-le-suc h)

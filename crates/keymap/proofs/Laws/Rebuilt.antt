@@ -11,27 +11,23 @@
 -- Assumes nothing.
 use mathlib.Core.Path.{_≡_, refl, sym, ap, _∙_}
 use Prim.Native.Nat.{ℕ, zero, suc, _+_, _-_, _*_, _≤_, _<_}
-use native.Mathlib.Nat.{le-of-suc-le-suc, not-suc-le-zero, zero-add}
+use native.Mathlib.Nat.{zero-add}
 use native.Mathlib.Omega.{arith}
-use mathlib.Core.Bool.{Bool, true, false}
 use mathlib.Core.List.{List, [], _∷_, map}
-use mathlib.Core.Option.{Option, none, some}
 use lib.ListN.{length, getD, take, drop, length-map}
-use lib.Dec.{leb}
-use borrow.Author.Tests.{leb-true, leb-false}
-use Rattle.keymap.specs.Label.{mark, labelEntry, valueWord, labelIn, valueIn}
+use Rattle.keymap.specs.Label.{mark, labelEntry, valueWord}
 use Rattle.keymap.specs.Bits.{sumBelow, pack}
 use Rattle.keymap.specs.Degrees.{total, sequence}
 use Rattle.keymap.specs.Image.{Image}
 use Rattle.keymap.specs.Forest.{Forest, empty, node, ByteLabels, size, width}
 use Rattle.keymap.specs.BreadthFirst.{Row, rows, rowLabel, rowValue, rowDegree, forestBits, forestImage}
-use Rattle.keymap.specs.Decode.{takeTrees, dropTrees, claim, rebuild, rowOf, rowsFrom}
+use Rattle.keymap.specs.Decode.{takeTrees, dropTrees, claim, rebuild, rowsFrom}
 use Rattle.keymap.proofs.Laws.Sums.{sumBelow-first}
 use Rattle.keymap.proofs.Laws.Label.{labelEntry-back, valueWord-back}
 use Rattle.keymap.proofs.Laws.Degrees.{total-take}
 use Rattle.keymap.proofs.Laws.BreadthFirst.{length-rows}
 use Rattle.keymap.proofs.Laws.Decode.{Fits, rows-rebuild}
-use Rattle.keymap.proofs.Laws.Image.{ByteRows, length-forest-labels, total-rows}
+use Rattle.keymap.proofs.Laws.Image.{ByteRows}
 
 -- ---- rows that fit
 

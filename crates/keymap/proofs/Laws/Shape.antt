@@ -14,7 +14,6 @@
 -- Assumes nothing.
 use mathlib.Core.Path.{_≡_, refl, sym, ap, ap₂, _∙_}
 use Prim.Native.Nat.{ℕ, zero, suc, _+_, _≤_, _<_}
-use native.Mathlib.Nat.{not-suc-le-zero}
 use native.Mathlib.Omega.{arith}
 use mathlib.Core.List.{List, [], _∷_, _++_, map, cons≢nil}
 use mathlib.Core.Option.{Option, none, some}
@@ -31,7 +30,7 @@ use Rattle.keymap.specs.Bits.{sumBelow, pack}
 use Rattle.keymap.specs.Degrees.{sequence}
 use Rattle.keymap.specs.Image.{Image, image}
 use Rattle.keymap.specs.Forest.{Forest, empty, node, Tree, treeOf, ownEntry, behindLabel, listForest, listTree, Orderly, ByteLabels, size, width, join}
-use Rattle.keymap.specs.BreadthFirst.{Row, rows, rowLabel, rowValue, rowDegree, forestBits, forestImage}
+use Rattle.keymap.specs.BreadthFirst.{rows, rowLabel, rowValue, rowDegree, forestBits, forestImage}
 use Rattle.keymap.specs.Decode.{rebuild, rowsFrom, decode, imageMap}
 use Rattle.keymap.proofs.Laws.Sums.{sumBelow-ext}
 use Rattle.keymap.proofs.Laws.Forest.{size-join}
@@ -39,9 +38,9 @@ use Rattle.keymap.proofs.Laws.Listing.{listTree-rising, treeOf-orderly}
 use Rattle.keymap.proofs.Laws.BreadthFirst.{queue, length-rows}
 use Rattle.keymap.proofs.Laws.LevelOrder.{length-prefixes, image-listForest, image-forest, length-prefixes-forest}
 use Rattle.keymap.proofs.Laws.Image.{decode-forestImage, treeOf-bytes}
-use Rattle.keymap.proofs.Laws.Items.{nobody, itemDegree, entryItem, OrderlyEntries, orderly-nodes, nodes-orderly}
+use Rattle.keymap.proofs.Laws.Items.{nobody, itemDegree, entryItem, orderly-nodes, nodes-orderly}
 use Rattle.keymap.proofs.Laws.Rebuilt.{Told, told-spelled, told-image, told-bytes, told-size}
-use Rattle.keymap.proofs.Laws.Entries.{getD-degrees, getD-labels, getD-values, labelIn-entry, valueIn-entry, unmarked-entry, forest-told}
+use Rattle.keymap.proofs.Laws.Entries.{getD-degrees, labelIn-entry, valueIn-entry, unmarked-entry, forest-told}
 
 -- d children of the root, then the degrees of the other nodes
 pub record Shape (i : Image) (d : ℕ) (ds : List ℕ) : Type 0 where

@@ -8,7 +8,6 @@
 use mathlib.Core.Path.{_≡_, refl, sym, ap, ap₂, _∙_}
 use Prim.Native.Nat.{ℕ, zero, suc, _+_, _<_}
 use native.Mathlib.Omega.{arith}
-use native.Mathlib.Nat.{not-suc-le-zero, le-of-suc-le-suc}
 use mathlib.Core.List.{List, [], _∷_, _++_, map}
 use lib.ListN.{length, getD, take, length-map}
 use Rattle.keymap.specs.Key.{Key}
@@ -24,7 +23,7 @@ use Rattle.keymap.proofs.Laws.Sums.{sumBelow-ext}
 use Rattle.keymap.proofs.Laws.Bits.{bit-small}
 use Rattle.keymap.proofs.Laws.Degrees.{total-take}
 use Rattle.keymap.proofs.Laws.Image.{length-imageBits}
-use Rattle.keymap.proofs.Laws.Paths.{degreeAt, indexOf-in, pathOf-child, child-inside, childrenIn-iff, nodeOf-node, pathOf-nodeOf, nodeOf-pathOf}
+use Rattle.keymap.proofs.Laws.Paths.{degreeAt, getD-map, indexOf-in, pathOf-child, child-inside, childrenIn-iff, nodeOf-node, pathOf-nodeOf, nodeOf-pathOf}
 use Rattle.louds.specs.declared.Kids.the-variants.{Run}
 use Rattle.louds.specs.declared.Up.the-variants.{Node}
 use Rattle.louds.specs.Nodes.{childrenOf, parentOf}
@@ -38,11 +37,6 @@ mapBits m = bit (pack (imageBits m))
 abbrev pub mapLength : Map → ℕ
 mapLength m = bitsFor (length (prefixes m))
 
-getD-degrees : (m : Map) (ps : List Key) (i : ℕ) → i < length ps → getD (map (degree m) ps) i 0 ≡ degree m (getD ps i [])
-getD-degrees m [] i h = absurd (not-suc-le-zero h)
-getD-degrees m (p ∷ ps) zero h = refl
-getD-degrees m (p ∷ ps) (suc i) h = getD-degrees m ps i (le-of-suc-le-suc h)
-
 module _ (m : Map) (c : Catalogue m) where
   -- the children of the node at an index are numbered on from those of the nodes before it
   children-index : (i : ℕ) → i < length (nodes m) → childrenOf (mapBits m) (mapLength m) (i + 1) ≡ Run (sumBelow (degreeAt m) i + 2) (degreeAt m i)
@@ -51,10 +45,10 @@ module _ (m : Map) (c : Catalogue m) where
       let ds : List ℕ = map (degree m) ([] ∷ prefixes m) in
       let l : i < length ds = omega (arith, length-map ([] ∷ prefixes m) (degree m)) in
       let before : total (take i ds) ≡ sumBelow (degreeAt m) i =
-      sym (total-take ds i) ∙ sumBelow-ext (λ j. getD ds j 0) (degreeAt m) i (λ j b. getD-degrees m ([] ∷ prefixes m) j (omega arith)) in
+      sym (total-take ds i) ∙ sumBelow-ext (λ j. getD ds j 0) (degreeAt m) i (λ j b. getD-map (degree m) ([] ∷ prefixes m) j (omega arith)) in
       ap (λ (n : ℕ). childrenOf (mapBits m) n (i + 1)) (sym (length-imageBits m c))
       ∙ children-pack ds i l
-      ∙ ap₂ Run (ap (λ (n : ℕ). n + 2) before) (getD-degrees m ([] ∷ prefixes m) i h)
+      ∙ ap₂ Run (ap (λ (n : ℕ). n + 2) before) (getD-map (degree m) ([] ∷ prefixes m) i h)
 
   -- the children of node k: the first number, and the paths from there on
   pub record ChildrenOf (k : ℕ) : Type 0 where

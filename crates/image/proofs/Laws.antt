@@ -2,3 +2,6 @@
 pub mod Spelled
 pub mod Accept
 pub mod AcceptTest
+pub mod Passed
+pub mod AcceptAnswer
+pub mod Meaning

@@ -1,2 +1,4 @@
 pub mod Accept
 pub mod AcceptTest
+pub mod Meaning
+pub mod AcceptAnswer

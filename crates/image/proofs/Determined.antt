@@ -1,0 +1,23 @@
+-- Of each public call any two outcomes that its contract allows are equal: it only reads, and its answer is given by an equation.
+-- Stated over the contract's own claim, so that a clause which is weakened or left out breaks it. Assumes nothing.
+use mathlib.Core.Path.{_≡_, sym, _∙_}
+use contract.Lifetimes.{Lfts}
+use denote.Triple.Clauses.{AtExit}
+use borrow.Fn.Kinds.{endedOf}
+use borrow.Fn.World.{ArgsD, ResD}
+use Rattle.image.proofs.accept
+use Rattle.image.proofs.accept.Kinds as accept-kinds
+use Rattle.image.proofs.accept.Reads as accept-reads
+use Rattle.image.proofs.acceptance.is_image
+use Rattle.image.proofs.acceptance.is_image.Kinds as is-image-kinds
+use Rattle.image.proofs.acceptance.is_image.Reads as is-image-reads
+use Rattle.image.proofs.Laws.AcceptAnswer.{said-checked-one}
+
+module _ (κs : Lfts 3) where
+  pub accept-determined : (a : ArgsD accept.signature κs) (r₁ r₂ : ResD accept.signature κs) (s₁ s₂ : AtExit (endedOf 3 accept-kinds.ps accept-kinds.r) κs)
+      → accept-reads.Post κs a r₁ s₁ → accept-reads.Post κs a r₂ s₂ → r₁ ≡ r₂
+  accept-determined a r₁ r₂ s₁ s₂ p q = said-checked-one r₁ r₂ (p ∙ sym q)
+
+  pub is-image-determined : (a : ArgsD is_image.signature κs) (r₁ r₂ : ResD is_image.signature κs) (s₁ s₂ : AtExit (endedOf 3 is-image-kinds.ps is-image-kinds.r) κs)
+      → is-image-reads.Post κs a r₁ s₁ → is-image-reads.Post κs a r₂ s₂ → r₁ ≡ r₂
+  is-image-determined a r₁ r₂ s₁ s₂ p q = p ∙ sym q

@@ -1,0 +1,16 @@
+-- What `accept` answers, in 01's numbers: refusal 6 "exactly when .. lent image is no map's image", else 0.
+-- Assumes nothing.
+use Prim.Native.Nat.{ℕ}
+use mathlib.Core.Bool.{cond}
+use mathlib.Core.List.{List, [], _∷_}
+use Rattle.keymap.specs.Refusals.{Refusal, refusalNumber}
+use Rattle.keymap.specs.Image.{Image}
+use Rattle.image.specs.AcceptTest.{imageTest}
+use Rattle.image.specs.declared.answers.Checked.{Checked}
+
+abbrev pub saidChecked : Checked → List ℕ
+saidChecked Checked.Accepted = 0 ∷ []
+saidChecked Checked.NotAnImage = refusalNumber Refusal.NotAnImage ∷ []
+
+unfoldable pub acceptSays : Image → List ℕ
+acceptSays i = cond (imageTest i) (0 ∷ []) (refusalNumber Refusal.NotAnImage ∷ [])

@@ -2,3 +2,5 @@ pub mod Distinct
 pub mod Words
 pub mod Sound
 pub mod SoundTest
+pub mod Spelling
+pub mod Meaning

@@ -1,3 +1,5 @@
 pub mod Words
 pub mod Sound
 pub mod SoundTest
+pub mod Spelling
+pub mod Meaning

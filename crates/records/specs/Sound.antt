@@ -5,6 +5,7 @@
 --     LabelsRise    labels strictly rise
 --     Fits          what is asked of a record in use by its own words
 --     Children      what is asked of a record's chain of children
+-- Assumes nothing.
 use Prim.Native.Nat.{ℕ, _+_, _≤_, _<_}
 use mathlib.Core.Path.{_≡_}
 use mathlib.Core.Logic.{_⊎_}

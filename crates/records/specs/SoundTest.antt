@@ -5,6 +5,7 @@
 --     chainRest     how many records are left to be met after a chain
 --     passRest      how many are left after the first records and their chains
 --     soundTest     the whole test: true exactly of a sound pool
+-- Assumes nothing.
 use Prim.Native.Nat.{ℕ, zero, suc, _+_}
 use mathlib.Core.Bool.{Bool, true, false, cond, _&&_}
 use lib.ListN.{length}

@@ -14,14 +14,16 @@
 --     Node          a record is the root or in use
 --     nextRecord    the record that is taken next
 --     taken         the pool with the root's words brought up to date: a record is taken
+--     Bounded       every word is of 32 bits
 --     capacity      how many records besides the root there may be
+-- Assumes nothing.
 use Prim.Native.Nat.{ℕ, _+_, _-_, _*_, _/_, _<_, _≤_, min}
 use mathlib.Core.Path.{_≡_}
 use mathlib.Core.Logic.{_⊎_}
 use mathlib.Core.List.{List}
 use mathlib.Core.Option.{Option}
 use lib.ListN.{length, getD, set}
-use Rattle.keymap.specs.Limits.{mostRecords}
+use Rattle.keymap.specs.Limits.{mostRecords, valueLimit}
 use Rattle.keymap.specs.Label.{labelIn, valueIn}
 
 abbrev pub Pool : Type 0
@@ -80,6 +82,10 @@ nextRecord p = lastRecord p + 1
 
 unfoldable pub taken : Pool → ℕ → Pool
 taken p m = put p 0 0 m
+
+-- every word is of 32 bits, as the words of a lent slice are
+abbrev pub Bounded : Pool → Type 0
+Bounded p = (c k : ℕ) → word p c k < valueLimit
 
 -- the smaller of 4,096 and (length / 5, rounded down) - 1
 abbrev pub capacity : Pool → ℕ

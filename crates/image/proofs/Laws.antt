@@ -5,3 +5,4 @@ pub mod AcceptTest
 pub mod Passed
 pub mod AcceptAnswer
 pub mod Meaning
+pub mod Walk

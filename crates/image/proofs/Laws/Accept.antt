@@ -45,7 +45,7 @@ use Rattle.image.proofs.Laws.Spelled.{inList, Spelled, zeros-sequence, 
 -- ---- an image of the shape is accepted
 
 module _ (i : Image) (d : ℕ) (ds : List ℕ) (c : Shape i d ds) where
-  shape-spelled : Spelled i (d ∷ ds)
+  pub shape-spelled : Spelled i (d ∷ ds)
   unfolding total
   shape-spelled = record { packed = c .packed; many = omega (arith, c .told .many); all = c .told .all }
 

@@ -1,0 +1,6 @@
+pub mod Bytes
+pub mod Decimal
+pub mod Numerals
+pub mod TabLine
+pub mod Text
+pub mod Writing

@@ -1,0 +1,7 @@
+pub mod Bytes
+pub mod Decimal
+pub mod TabLine
+pub mod Text
+pub mod Writing
+pub mod Answers
+pub mod Numerals

@@ -4,3 +4,4 @@ pub mod Numerals
 pub mod TabLine
 pub mod Text
 pub mod Writing
+pub mod Answers

@@ -42,7 +42,7 @@ unfoldable pub valueAfter : ℕ → List ℕ → ℕ
 valueAfter v [] = v
 valueAfter v (b ∷ t) = valueAfter (v * 10 + (b - zeroDigit)) t
 
--- "no leading zero but "0" itself"
+-- a zero before other digits: "0" itself has none
 unfoldable pub leadingZero : List ℕ → Bool
 leadingZero t = ltb 1 (length t) && eqb (getD t 0 0) zeroDigit
 

@@ -31,7 +31,7 @@ entryLines text = linesOf text
 unfoldable pub entriesOf : List ℕ → List (Option Entry)
 entriesOf text = map tabEntry (entryLines text)
 
--- a line that the text's end ends, and no LF, has nothing behind it
+-- behind a line stands its LF, unless the text ends there: then the next line would begin at the text's end, where there is none
 abbrev pub firstSays : ℕ → ℕ → List (List ℕ) → List ℕ
 firstSays len at [] = 0 ∷ []
 firstSays len at (l ∷ ls) = 0 ∷ (at + length l) ∷ min (suc (at + length l)) len ∷ []

@@ -38,7 +38,6 @@ abbrev pub AllPlain : List Entry → Type 0
 AllPlain [] = Unit {0}
 AllPlain (e ∷ m) = Plain e × AllPlain m
 
--- the text fits the buffer or nothing is written
 unfoldable pub writeLineSays : Entry → List ℕ → List ℕ
 writeLineSays e out = cond (ltb (length out) (length (tabText e))) (refusalNumber Refusal.KeyRoom ∷ []) (0 ∷ length (tabText e) ∷ [])
 

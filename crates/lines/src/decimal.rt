@@ -33,7 +33,7 @@ pub enum Digits {
 pub fn number_in(text: &[u8]) -> Numeral
     ensures { λ r. ⌜ spelled r ≡ numberIn (now (text .entry)) ⌝ }
 {
-    if text.len() == 0 {
+    if text.len() < 1 {
         return Numeral::Broken;
     }
     if MOST_DIGITS < text.len() {

@@ -1,13 +1,15 @@
 -- Laws of the first of a byte in a text: the stretch before it has none of them, and a text that has none is one stretch.
+-- A text put into a buffer grows at its end, by a byte or by another text.
 --
 --     stretch-here          at b itself the stretch ends, and `stretch-other` another byte is part of it
 --     stretch-at            the same of what stands from a place on, and `stretch-past`, `stretch-end`
---     stretch-within        it is no longer than the text, and `stretch-holds` shorter exactly if the text has a b
+--     stretch-within        it is no longer than the text
 --     stretch-split         a text with a b is the stretch, b and the rest
 --     stretch-append        the stretch of a text without b, put before a b, is that text
---     onto-set              a text put into a buffer and the byte behind it set is a text that is longer by that byte
---     onto-behind           a text put behind another is the two put as one
---     holds-stretch         it has no b, and `holds-take` a leading part has one exactly if it is longer
+--     holds-stretch         the stretch has no b
+--     holds-take            a leading part has a b exactly if it is longer than the stretch, and `holds-whole` the whole text
+--     onto-set              the byte behind a text that was put, set
+--     onto-behind           a text put behind another
 -- Assumes nothing.
 use mathlib.Core.Path.{_≡_, refl, sym, ap, _∙_}
 use Prim.Native.Nat.{ℕ, zero, suc, _+_, _≤_, _<_}
@@ -49,7 +51,6 @@ module _ (b : ℕ) where
       go true e ih = rw e (omega arith)
       go false e ih = rw e (omega arith)
 
-  -- below one more is below, both moved up by one
   ltb-suc : (m n : ℕ) → ltb (suc m) (suc n) ≡ ltb m n
   ltb-suc m n = go (ltb m n) refl
     where
@@ -57,7 +58,6 @@ module _ (b : ℕ) where
       go true e = lt-ltb (suc m) (suc n) (let h : m < n = ltb-true m n e in omega arith) ∙ sym e
       go false e = le-ltb (suc m) (suc n) (let h : n ≤ m = ltb-false m n e in omega arith) ∙ sym e
 
-  -- a leading part has a b exactly if it is longer than the stretch
   pub holds-take : (t : List ℕ) (n : ℕ) → n ≤ length t → holds b (take n t) ≡ ltb (stretch b t) n
   unfolding holds stretch
   holds-take t zero h = sym (le-ltb (stretch b t) 0 (omega arith))

@@ -2,9 +2,13 @@
 -- and digits without a leading zero are those of what they stand for.
 --
 --     decimal-small         below ten a number is one digit, and `decimal-large` from ten on the digits of its tenth and the last one
---     length-decimal        below 10 ^ k it has k digits at most
---     numberIn-decimal      a number's digits spell it
---     numberIn-one          what spells a number is its digits
+--     length-decimal        below 10 ^ k it has k digits at most; a value `length-decimal-some` one and `length-decimal-most` ten
+--     areDigits-decimal     they are digits, and `valueAfter-decimal` stand for the number, and `leadingZero-decimal` have no leading zero
+--     decimal-valueAfter    digits behind those of a number but 0 are those of what they stand for together
+--     lastDigits-all        the last digits of a number, as many as it has, are all of them
+--     numberIn-obeyed       a text that obeys the rule spells what its digits stand for, and `numberIn-broken` any other spells nothing
+--     numberIn-decimal      a value's digits spell it
+--     numberIn-one          what spells a number is its digits, and `numberIn-below` the number is a value
 -- Assumes nothing.
 use mathlib.Core.Path.{_≡_, refl, sym, ap, _∙_}
 use Prim.Native.Nat.{ℕ, zero, suc, _+_, _*_, _-_, _/_, _%_, _^_, _≤_, _<_}
@@ -196,7 +200,7 @@ decimal-valueAfter (b ∷ t) v l h =
     let last : zeroDigit + w % 10 ≡ b = omega (arith, digit .0, digit .1) in
     decimal-valueAfter t w (omega arith) (digit .2) ∙ rw (decimal-large w (omega arith), tenth, last, append-assoc)
 
--- a rule that is obeyed, part by part
+-- the rule, part by part
 pub record Obeyed (t : List ℕ) : Type 0 where
   pub some-digit : 1 ≤ length t
   pub few-digits : length t ≤ mostDigits

@@ -1,4 +1,4 @@
--- Laws of a line's entry, by where its first TAB and its first LF stand.
+-- Laws of a line's entry: where the first TAB and the first LF stand decides, and then the number.
 --
 --     tabEntry-no-tab       a line without TAB has none, and `tabEntry-lf` one with an LF before it
 --     tabEntry-number       of any other line the number decides, and `tabEntry-parts` says the same by what the parts hold
@@ -111,7 +111,6 @@ tabLineKey-none line = go (tabEntry line)
     go none h = refl
     go (some e) h = absurd (let z : _≡_ {A = ℕ} 0 1 = cc in omega arith)
 
--- the key is the line's leading part of the length that is answered
 pub tabLineKey-some : (line : List ℕ) (k v : ℕ) → tabLineSays line ≡ 0 ∷ k ∷ v ∷ [] → (tabLineKey line ≡ take k line) × (k ≤ length line)
 unfolding tabLineSays tabLineKey keyPart
 tabLineKey-some line k v = go (tabEntry line) refl

@@ -17,7 +17,7 @@ cut : (text : List ℕ) (at end next : ℕ) → at < length text → end ≡ at 
 cut text at end next l e n = (let q : next ≡ min (suc (at + stretch lineFeed (drop at text))) (length text) = rw (← e) n in λ i. 0 ∷ e i ∷ q i ∷ []) ∙ sym (next-at text at l)
 
 returns : tie.Need-returns
-returns c = sym (next-past _ _ (c .if1 .taken))
+returns c = sym (next-past _ _ (omega arith))
 
 find-requires : tie.Need-find-requires
 find-requires c κs = search needs
@@ -26,12 +26,12 @@ add-t6 : tie.Need-add-t6
 add-t6 c = search needs
 
 returns-2 : tie.Need-returns-2
-returns-2 c = cut _ _ _ _ (c .before .before .if1 .left) (c .before .find .ensures) (omega arith)
+returns-2 c = cut _ _ _ _ (omega arith) (c .before .find .ensures) (omega arith)
 
 returns-3 : tie.Need-returns-3
 returns-3 c =
     let a = c .before .before .before .before .args in
-    cut _ _ _ _ (c .before .before .if1 .left) (c .before .find .ensures)
+    cut _ _ _ _ (omega arith) (c .before .find .ensures)
     (omega (arith, c .before .find .ensures, stretch-within lineFeed (drop (a .at) (a .text .now)), length-drop (a .at) (a .text .now)))
 
 pub next-line-spec : {M : Type 1} → statement M

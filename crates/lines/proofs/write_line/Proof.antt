@@ -44,7 +44,7 @@ add-length-2 c =
     omega (arith, start .good .0 .1, c .digit-count .ensures, length-decimal-most (start .args .number) (start .fits .number .fits))
 
 returns : tie.Need-returns
-returns c = short _ _ _ (c .before .digit-count .ensures) _ (c .if1 .taken)
+returns c = short _ _ _ (c .before .digit-count .ensures) _ (omega arith)
 
 put-line-requires : tie.Need-put-line-requires
 put-line-requires c κs =
@@ -57,7 +57,8 @@ same-length c = search needs
 returns-2 : tie.Need-returns-2
 returns-2 c =
     let tested = c .before .before .before .before in
-    let both = long _ _ _ (tested .before .digit-count .ensures) _ (tested .if1 .left) in
+    let a = tested .before .before .before .before .args in
+    let both = long (a .key .now) (a .number) _ (tested .before .digit-count .ensures) (a .out .now) (omega arith) in
     (both .0, c .before .before .put-line .ensures ∙ both .1)
 
 pub write-line-spec : {M : Type 1} → statement M

@@ -23,10 +23,10 @@ reads t v n m z d l =
     sym (numberIn-obeyed t (record { some-digit = n; few-digits = m; no-leading-zero = z; all-digits = k .0; in-range = rw (k .1) l }) ∙ ap some (k .1))
 
 returns : tie.Need-returns
-returns c = sym (numberIn-empty _ (c .if1 .taken))
+returns c = sym (numberIn-empty _ (omega arith))
 
 returns-2 : tie.Need-returns-2
-returns-2 c = sym (numberIn-long _ (c .if2 .taken))
+returns-2 c = sym (numberIn-long _ (omega arith))
 
 leads-with-zero-requires : tie.Need-leads-with-zero-requires
 leads-with-zero-requires c κs = search needs

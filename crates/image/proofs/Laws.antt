@@ -2,6 +2,8 @@
 pub mod Spelled
 pub mod Accept
 pub mod AcceptTest
+pub mod BitTests
+pub mod Ends
 pub mod Passed
 pub mod AcceptAnswer
 pub mod Meaning

@@ -43,14 +43,14 @@ kidsIn i m = childrenOf (bit (i .words)) (bitsFor (entries i)) m
 -- "its parent's number from 1 to m-1"
 pub record ParentBelow (i : Image) (m : ℕ) : Type 0 where
   pub number : ℕ
-  pub is : parentIn i m ≡ Node number
+  pub answer : parentIn i m ≡ Node number
   pub low : 1 ≤ number
   pub high : number < m
 
 pub record HasChild (i : Image) (m : ℕ) : Type 0 where
   pub first : ℕ
   pub count : ℕ
-  pub is : kidsIn i m ≡ Run first count
+  pub answer : kidsIn i m ≡ Run first count
   pub some : 0 < count
 
 pub record Accepted (i : Image) : Type 0 where
@@ -79,7 +79,7 @@ pub record OfMap (i : Image) : Type 0 where
   pub map : Map
   pub catalogue : Catalogue map
   pub few : length (prefixes map) ≤ mostRecords
-  pub is : image map ≡ i
+  pub whole : image map ≡ i
 
 pub record Lent (i : Image) : Type 0 where
   pub words-wide : (w : ℕ) → getD (i .words) w 0 < 2 ^ wordBits

@@ -2,11 +2,12 @@
 -- A one is the node one above the ones before it, and its parent is the count of zeros before it; a one right after a one is its next sibling;
 -- and a zero right after a zero closes a node that has no child, which is the count of zeros before it.
 --
---     entryFits     an entry below 512, with value 0 if unmarked
---     oneFits       what is asked of the node of a one
---     zeroFits      what is asked of the node that a zero closes
---     passesFrom    the pass from a place on
---     imageTest     the whole test
+--     entryFits       an entry below 512, with value 0 if unmarked
+--     oneFits         what is asked of the node of a one
+--     childlessFits   what is asked of a node without child
+--     bitFits         what is asked of a bit
+--     passesFrom      the pass from a place on
+--     imageTest       the whole test
 -- Assumes nothing.
 use Prim.Native.Nat.{ℕ, zero, suc, _+_, _-_, _*_, _/_, _%_, _^_}
 use mathlib.Core.Bool.{Bool, true, cond, _&&_}

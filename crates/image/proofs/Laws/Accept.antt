@@ -11,36 +11,33 @@
 --     accepted-bytes      and has bytes for labels
 -- Assumes nothing.
 use mathlib.Core.Path.{_≡_, refl, sym, ap, ap₂, _∙_, subst}
-use mathlib.Core.Logic.{_↔_, _⊎_, inl, inr, ⊎-elim}
-use Prim.Native.Nat.{ℕ, zero, suc, _+_, _-_, _*_, _^_, _≤_, _<_}
-use native.Mathlib.Nat.{add-zero, add-suc}
+use mathlib.Core.Logic.{_↔_, ⊎-elim}
+use Prim.Native.Nat.{ℕ, zero, suc, _+_, _-_, _*_, _≤_, _<_}
 use native.Mathlib.Decide.{decLe}
 use native.Mathlib.Omega.{arith}
 use mathlib.Core.List.{List, [], _∷_}
 use lib.ListN.{length, getD}
-use Rattle.keymap.specs.Limits.{wordBits, valueLimit, mostRecords}
+use Rattle.keymap.specs.Limits.{mostRecords}
 use Rattle.keymap.specs.Map.{Map, Catalogue}
 use Rattle.keymap.specs.Prefixes.{prefixes}
 use Rattle.keymap.specs.Label.{mark, labelIn}
-use Rattle.keymap.specs.Bits.{bit, sumBelow, table, pack, unpack, wordsFor}
+use Rattle.keymap.specs.Bits.{bit, sumBelow, table, pack, unpack}
 use Rattle.keymap.specs.Degrees.{unary, total, sequence, degreesFrom}
 use Rattle.keymap.specs.Image.{Image, bitsFor, image}
-use Rattle.keymap.specs.Forest.{Forest, Orderly, ByteLabels}
+use Rattle.keymap.specs.Forest.{Orderly, ByteLabels}
 use Rattle.keymap.specs.BreadthFirst.{forestImage}
 use Rattle.keymap.specs.Decode.{decode, imageMap}
 use Rattle.keymap.proofs.Laws.Sums.{sumBelow-zero, sumBelow-suc, sumBelow-lt, sumBelow-mono}
 use Rattle.keymap.proofs.Laws.Bits.{bit-small, bit-either, length-unpack, getD-unpack, unpack-small, pack-unpack}
 use Rattle.keymap.proofs.Laws.Degrees.{sequence-unary, unary-degreesFrom, length-sequence}
-use Rattle.keymap.proofs.Laws.Rebuilt.{Told}
 use Rattle.keymap.proofs.Laws.Shape.{Shape, shape-image, shape-orderly, shape-bytes, shape-map, shape-few, shape-catalogue, map-shape}
-use Rattle.louds.specs.declared.Kids.the-variants.{Run}
 use Rattle.louds.specs.declared.Up.the-variants.{Node}
-use Rattle.louds.specs.Rank.{gap, onesBefore, zerosBefore}
+use Rattle.louds.specs.Rank.{onesBefore, zerosBefore}
 use Rattle.louds.proofs.Laws.Rank.{ones-zeros, zeros-ext}
-use Rattle.louds.proofs.Laws.Select.{Stands, rank-kth, kth-rank}
-use Rattle.louds.proofs.Laws.Nodes.{InRun, child-of-parent, parent-at, parent-told}
-use Rattle.image.specs.Accept.{entries, entryOf, valueOf, parentIn, kidsIn, ParentBelow, HasChild, Accepted, OfMap, Lent}
-use Rattle.image.proofs.Laws.Spelled.{inList, Spelled, zeros-sequence, spelled-length, spelled-words, spelled-unused, spelled-first, spelled-zeros, spelled-ones, spelled-sum, spelled-within, spelled-children, spelled-parent, ChildOf, spelled-parent-of, child-parent}
+use Rattle.louds.proofs.Laws.Select.{kth-rank}
+use Rattle.louds.proofs.Laws.Nodes.{child-of-parent, parent-at}
+use Rattle.image.specs.Accept.{entries, entryOf, parentIn, kidsIn, ParentBelow, HasChild, Accepted, OfMap, Lent}
+use Rattle.image.proofs.Laws.Spelled.{inList, Spelled, zeros-sequence, spelled-words, spelled-unused, spelled-first, spelled-zeros, spelled-ones, spelled-within, spelled-children, spelled-parent, ChildOf, spelled-parent-of, child-parent}
 
 -- ---- an image of the shape is accepted
 
@@ -83,7 +80,7 @@ module _ (i : Image) (d : ℕ) (ds : List ℕ) (c : Shape i d ds) where
       below : (m : ℕ) → ChildOf i (d ∷ ds) shape-spelled m → ParentBelow i m
       below m h = record {
         number = h .index + 1;
-        is = child-parent i (d ∷ ds) shape-spelled h;
+        answer = child-parent i (d ∷ ds) shape-spelled h;
         low = omega arith;
         high = omega (arith, h .number, c .told .ahead (h .index) (h .index-within));
       }
@@ -108,7 +105,7 @@ module _ (i : Image) (d : ℕ) (ds : List ℕ) (c : Shape i d ds) where
           record {
             first = sum (suc e) + 2;
             count = getD ds e 0;
-            is = ap (kidsIn i) at ∙ spelled-children i (d ∷ ds) shape-spelled (suc e) (omega arith);
+            answer = ap (kidsIn i) at ∙ spelled-children i (d ∷ ds) shape-spelled (suc e) (omega arith);
             some = c .live e (omega arith) u;
           }
 
@@ -140,7 +137,7 @@ module _ (i : Image) (a : Accepted i) where
       let few = sumBelow-mono b {i = suc p} {j = bitsFor n} h in
       let q = a .parents (onesBefore b p + 1) (omega arith) (omega (arith, a .ones, sumBelow-suc b p)) in
       let u = one-parent i p (onesBefore b p + 1) h e refl in
-      let s = q .is in
+      let s = q .answer in
       let z : q .number ≡ zerosBefore b p = cc in
       (omega (arith, q .low), omega (arith, q .high))
 
@@ -208,7 +205,7 @@ module _ (i : Image) (a : Accepted i) where
         go (no gt) =
             let m : ℕ = sums k + 2 in
             let q = a .parents m (omega arith) (omega arith) in
-            let r = child-of-parent b small (bitsFor n) m (q .number) (q .low) (q .is) in
+            let r = child-of-parent b small (bitsFor n) m (q .number) (q .low) (q .answer) in
             let j : ℕ = q .number - 1 in
             let at : q .number ≡ j + 1 = omega (arith, q .low) in
             let run = sym (r .answer) ∙ ap (kidsIn i) at ∙ spelled-children i spells spells-spelled j (omega (arith, q .high)) in
@@ -230,7 +227,7 @@ module _ (i : Image) (a : Accepted i) where
     entry-live e h u =
         let c = a .plain (e + 2) (omega arith) (omega arith) (rw back u) .1 in
         let at : suc e + 1 ≡ e + 2 = omega arith in
-        let run = sym (c .is) ∙ ap (kidsIn i) (sym at) ∙ spelled-children i spells spells-spelled (suc e) h in
+        let run = sym (c .answer) ∙ ap (kidsIn i) (sym at) ∙ spelled-children i spells spells-spelled (suc e) h in
         let count : c .count ≡ getD spells (suc e) 0 = cc in
         omega (arith, c .some)
 
@@ -296,6 +293,6 @@ map-accepted m c few = shape-accepted (image m) _ _ (map-shape m c few)
 
 pub accepted-iff : (i : Image) → Lent i → Accepted i ↔ OfMap i
 accepted-iff i l = (
-  λ a. record { map = imageMap i; catalogue = accepted-catalogue i l a; few = accepted-few i l a; is = accepted-image i l a },
-  λ m. subst Accepted (m .is) (map-accepted (m .map) (m .catalogue) (m .few)),
+  λ a. record { map = imageMap i; catalogue = accepted-catalogue i l a; few = accepted-few i l a; whole = accepted-image i l a },
+  λ m. subst Accepted (m .whole) (map-accepted (m .map) (m .catalogue) (m .few)),
 )

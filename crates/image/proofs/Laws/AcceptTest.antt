@@ -7,34 +7,18 @@
 --     passesFrom-end, ..        the pass, by what is left
 --     imageTest-many, ..        the whole, by the first test that fails
 -- Assumes nothing.
-use mathlib.Core.Path.{_≡_, refl, sym, ap, ap₂, _∙_, subst}
-use mathlib.Core.Logic.{_↔_, _⊎_, inl, inr, ⊎-elim}
-use Prim.Native.Nat.{ℕ, zero, suc, _+_, _-_, _*_, _/_, _%_, _^_, _≤_, _<_}
-use native.Mathlib.Nat.{eq-or-lt-of-le, zero-div, div-one}
-use native.Mathlib.Decide.{decLe, decLt}
-use native.Mathlib.Omega.{arith}
-use mathlib.Core.Bool.{Bool, true, false, cond, _&&_}
-use mathlib.Core.List.{List, [], _∷_}
-use lib.ListN.{length, getD, List·getD-eq-default}
+use mathlib.Core.Path.{_≡_, refl, _∙_}
+use Prim.Native.Nat.{ℕ, suc, _+_, _-_, _*_, _/_, _%_, _^_, _≤_, _<_}
+use mathlib.Core.Bool.{true, false, _&&_}
+use mathlib.Core.List.{List}
+use lib.ListN.{length, getD}
 use lib.Dec.{eqb, ltb, leb}
-use lib.Pow.{shr-shr, mod-pow-add}
-use borrow.Author.Tests.{lt-ltb, le-ltb, le-leb, lt-leb, eq-eqb, ne-eqb, ltb-true, ltb-false, leb-true, leb-false, eqb-true, eqb-false}
+use borrow.Author.Tests.{lt-ltb, le-ltb, le-leb, lt-leb, eq-eqb, ne-eqb}
 use Rattle.keymap.specs.Limits.{wordBits, mostRecords}
 use Rattle.keymap.specs.Label.{mark, labelIn}
 use Rattle.keymap.specs.Bits.{bit, wordsFor}
 use Rattle.keymap.specs.Image.{Image, bitsFor}
-use Rattle.keymap.proofs.Laws.Sums.{sumBelow-zero, sumBelow-suc, sumBelow-mono, sumBelow-lt}
-use Rattle.keymap.proofs.Laws.Bits.{high-none, bit-small, bit-either, bit-in, bit-beyond}
-use Rattle.louds.specs.declared.Kids.the-variants.{Run}
-use Rattle.louds.specs.declared.Up.the-variants.{Node}
-use Rattle.louds.specs.declared.Spot.the-variants.{At}
-use Rattle.louds.specs.Select.{zeroAt}
-use Rattle.louds.specs.Rank.{gap, onesBefore, zerosBefore}
-use Rattle.louds.proofs.Laws.Rank.{gap-small, gap-zero, bit-gap, ones-zeros}
-use Rattle.louds.proofs.Laws.Select.{Stands, rank-kth, kth-rank, kth-exists}
-use Rattle.louds.proofs.Laws.Nodes.{parent-at, children-to-zero}
-use Rattle.image.specs.Accept.{entries, entryOf, valueOf, parentIn, kidsIn, ParentBelow, HasChild, Accepted, Lent}
-use Rattle.image.proofs.Laws.Accept.{one-parent, accepted-climbs, accepted-second}
+use Rattle.image.specs.Accept.{entries}
 use Rattle.image.specs.AcceptTest.{entryFits, labelsRise, oneFits, childlessFits, bitFits, passesFrom, lengthsFit, endsFit, imageTest}
 
 -- ---- the tests by their cases

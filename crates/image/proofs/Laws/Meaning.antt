@@ -5,12 +5,9 @@
 --     tested-mapImage     so is one of which the test is true
 -- Assumes nothing.
 use mathlib.Core.Path.{_≡_, sym, ap, subst, _∙_}
-use Prim.Native.Nat.{ℕ, _≤_}
 use native.Mathlib.Omega.{arith}
 use mathlib.Core.Bool.{true}
 use lib.ListN.{length}
-use Rattle.keymap.specs.Limits.{mostRecords}
-use Rattle.keymap.specs.Map.{Map}
 use Rattle.keymap.specs.Prefixes.{prefixes}
 use Rattle.keymap.specs.Image.{Image, image}
 use Rattle.keymap.specs.Decode.{imageMap}

@@ -2,121 +2,41 @@
 -- a one is a node with its parent, its entry and its sibling before, and a zero after a zero is a node without child.
 --
 --     passes-told, passes-made    the pass asks it of each bit, and counts the ones
---     first-bits                  the first two bits, by the first word
---     unused-bits, unused-word    the bits behind the sequence, by the last word
+--     Passed                      all that it asks; it gives the conditions (`passed-..`)
+--     accepted-each               the conditions give what it asks
 --     test-accepted               an image of which the test is true is accepted
 --     accepted-test               of an accepted image the test is true
 --     imageTest-iff               both
 -- Assumes nothing.
-use mathlib.Core.Path.{_≡_, refl, sym, ap, ap₂, _∙_, subst}
-use mathlib.Core.Logic.{_↔_, _⊎_, inl, inr, ⊎-elim}
+use mathlib.Core.Path.{_≡_, refl, sym, ap, _∙_, subst}
+use mathlib.Core.Logic.{_↔_, ⊎-elim}
 use Prim.Native.Nat.{ℕ, zero, suc, _+_, _-_, _*_, _/_, _%_, _^_, _≤_, _<_}
-use native.Mathlib.Nat.{eq-or-lt-of-le, zero-div, div-one}
+use native.Mathlib.Nat.{eq-or-lt-of-le}
 use native.Mathlib.Decide.{decLe, decLt}
 use native.Mathlib.Omega.{arith}
-use mathlib.Core.Bool.{Bool, true, false, cond, _&&_}
-use mathlib.Core.List.{List, [], _∷_}
-use lib.ListN.{length, getD, List·getD-eq-default}
-use lib.Dec.{eqb, ltb, leb}
-use lib.Pow.{shr-shr, mod-pow-add}
-use borrow.Author.Tests.{lt-ltb, le-ltb, le-leb, lt-leb, eq-eqb, ne-eqb, ltb-true, ltb-false, leb-true, leb-false, eqb-true, eqb-false}
+use mathlib.Core.Bool.{true, _&&_}
+use lib.ListN.{length, getD}
+use lib.Dec.{eqb, leb}
+use borrow.Author.Tests.{le-leb, eq-eqb, leb-true, eqb-true}
 use Rattle.keymap.specs.Limits.{wordBits, mostRecords}
 use Rattle.keymap.specs.Label.{mark, labelIn}
 use Rattle.keymap.specs.Bits.{bit, wordsFor}
 use Rattle.keymap.specs.Image.{Image, bitsFor}
 use Rattle.keymap.proofs.Laws.Sums.{sumBelow-zero, sumBelow-suc, sumBelow-mono, sumBelow-lt}
-use Rattle.keymap.proofs.Laws.Bits.{high-none, bit-small, bit-either, bit-in, bit-beyond}
-use Rattle.louds.specs.declared.Kids.the-variants.{Run}
+use Rattle.keymap.proofs.Laws.Bits.{bit-small, bit-either}
 use Rattle.louds.specs.declared.Up.the-variants.{Node}
 use Rattle.louds.specs.declared.Spot.the-variants.{At}
 use Rattle.louds.specs.Select.{zeroAt}
 use Rattle.louds.specs.Rank.{gap, onesBefore, zerosBefore}
 use Rattle.louds.proofs.Laws.Rank.{gap-small, gap-zero, bit-gap, ones-zeros}
 use Rattle.louds.proofs.Laws.Select.{Stands, rank-kth, kth-rank, kth-exists}
-use Rattle.louds.proofs.Laws.Nodes.{parent-at, children-to-zero}
-use Rattle.image.specs.Accept.{entries, entryOf, valueOf, parentIn, kidsIn, ParentBelow, HasChild, Accepted, Lent}
+use Rattle.louds.proofs.Laws.Nodes.{children-to-zero}
+use Rattle.image.specs.Accept.{entries, entryOf, valueOf, parentIn, ParentBelow, HasChild, Accepted, Lent}
 use Rattle.image.proofs.Laws.Accept.{one-parent, accepted-climbs, accepted-second}
 use Rattle.image.proofs.Laws.AcceptTest.{bitFits-one, bitFits-closing, bitFits-childless}
-use Rattle.image.specs.AcceptTest.{entryFits, labelsRise, oneFits, childlessFits, bitFits, passesFrom, lengthsFit, endsFit, imageTest}
-
--- ---- tests by their parts
-
-both : (s t : Bool) → (s && t) ≡ true → (s ≡ true) × (t ≡ true)
-both true t h = (refl, h)
-both false t h = let z : _≡_ {A = ℕ} 0 1 = cc in absurd (omega arith)
-
-entryFits-told : (e v : ℕ) → entryFits e v ≡ true → (e < 2 * mark) × (e < mark → v ≡ 0)
-unfolding entryFits
-entryFits-told e v h = go (ltb e mark) refl
-  where
-    go : (t : Bool) → ltb e mark ≡ t → (e < 2 * mark) × (e < mark → v ≡ 0)
-    go true p = let l : e < mark = ltb-true e mark p in (omega arith, λ u. eqb-true v 0 (rw p at h))
-    go false p = let l : mark ≤ e = ltb-false e mark p in (ltb-true e (2 * mark) (rw p at h), λ u. absurd (omega arith))
-
-entryFits-made : (e v : ℕ) → e < 2 * mark → (e < mark → v ≡ 0) → entryFits e v ≡ true
-unfolding entryFits
-entryFits-made e v l z = go (ltb e mark) refl
-  where
-    go : (t : Bool) → ltb e mark ≡ t → entryFits e v ≡ true
-    go true p = rw p (eq-eqb v 0 (z (ltb-true e mark p)))
-    go false p = rw p (lt-ltb e (2 * mark) l)
-
--- what the test of a one asks of its node, whose parent is the count of zeros before it
-record OneFits (ls vs : List ℕ) (before ones zeros : ℕ) : Type 0 where
-  climbs : zeros ≤ ones
-  inside : ones ≤ length ls
-  small : getD ls (ones - 1) 0 < 2 * mark
-  plain : getD ls (ones - 1) 0 < mark → getD vs (ones - 1) 0 ≡ 0
-  rises : before ≡ 1 → labelIn (getD ls (ones - 2) 0) < labelIn (getD ls (ones - 2 + 1) 0)
-
-module _ (ls vs : List ℕ) where
-  oneFits-told : (before ones zeros : ℕ) → oneFits ls vs before ones zeros ≡ true → OneFits ls vs before ones zeros
-  unfolding oneFits labelsRise
-  oneFits-told before ones zeros h =
-      let (c, h′) = both (leb zeros ones) _ h in
-      let (d, h″) = both (leb ones (length ls)) _ h′ in
-      let (e, r) = both (entryFits (getD ls (ones - 1) 0) (getD vs (ones - 1) 0)) _ h″ in
-      let entry = entryFits-told (getD ls (ones - 1) 0) (getD vs (ones - 1) 0) e in
-      record {
-        climbs = leb-true zeros ones c;
-        inside = leb-true ones (length ls) d;
-        small = entry .0;
-        plain = entry .1;
-        rises = λ one. ltb-true _ _ (rw (ne-eqb before 0 (λ z. omega arith)) at r);
-      }
-
-  oneFits-made : (before ones zeros : ℕ) → before ≤ 1 → OneFits ls vs before ones zeros → oneFits ls vs before ones zeros ≡ true
-  unfolding oneFits labelsRise
-  oneFits-made before ones zeros few f =
-      rw (le-leb zeros ones (f .climbs), le-leb ones (length ls) (f .inside), entryFits-made (getD ls (ones - 1) 0) (getD vs (ones - 1) 0) (f .small) (f .plain))
-      (go (eqb before 0) refl)
-    where
-      go : (t : Bool) → eqb before 0 ≡ t
-          → cond (eqb before 0) true (ltb (labelIn (getD ls (ones - 2) 0)) (labelIn (getD ls (ones - 2 + 1) 0))) ≡ true
-      go true p = rw p
-      go false p =
-          let other = eqb-false before 0 p in
-          rw p (lt-ltb _ _ (f .rises (one other)))
-        where
-          one : (before ≡ 0 → ⊥) → before ≡ 1
-          one other = pick-one (decLe 1 before)
-            where
-              pick-one : Dec (1 ≤ before) → before ≡ 1
-              pick-one (yes h) = omega arith
-              pick-one (no h) = absurd (other (omega arith))
-
-  -- a zero after a zero closes a node without child, which is the root or marked
-  childlessFits-told : (m : ℕ) → childlessFits ls m ≡ true → 2 ≤ m → mark ≤ getD ls (m - 2) 0
-  unfolding childlessFits
-  childlessFits-told m h l = leb-true mark (getD ls (m - 2) 0) (rw (le-ltb m 2 l) at h)
-
-  childlessFits-made : (m : ℕ) → (2 ≤ m → mark ≤ getD ls (m - 2) 0) → childlessFits ls m ≡ true
-  unfolding childlessFits
-  childlessFits-made m h = go (ltb m 2) refl
-    where
-      go : (t : Bool) → ltb m 2 ≡ t → childlessFits ls m ≡ true
-      go true p = rw p
-      go false p = rw p (le-leb mark (getD ls (m - 2) 0) (h (ltb-false m 2 p)))
+use Rattle.image.specs.AcceptTest.{childlessFits, bitFits, passesFrom, lengthsFit, endsFit, imageTest}
+use Rattle.image.proofs.Laws.BitTests.{both, OneFits, oneFits-told, oneFits-made, childlessFits-told, childlessFits-made}
+use Rattle.image.proofs.Laws.Ends.{first-bits, unused-bits, unused-word}
 
 -- ---- the pass
 
@@ -216,7 +136,7 @@ module _ (i : Image) where
         let h = node-at m lo hi in
         record {
           number = zerosBefore b (suc (h .before));
-          is = h .parent;
+          answer = h .parent;
           low = zeros-some (h .before) (h .low);
           high = omega (arith, node-fits m h .climbs, h .rank);
         }
@@ -277,7 +197,7 @@ module _ (i : Image) where
         let run = children-to-zero b small (bitsFor n) m s e (f .1 .answer) (g .1 .answer) in
         let opens = rank-kth (gap b) (gap-small b) (bitsFor n) m s (f .1 .answer) in
         let closes = rank-kth (gap b) (gap-small b) (bitsFor n) (m + 1) e (g .1 .answer) in
-        record { first = (s + 1) - (m - 1); count = e - (s + 1); is = run .1; some = gap-open s e (run .0) opens closes }
+        record { first = (s + 1) - (m - 1); count = e - (s + 1); answer = run .1; some = gap-open s e (run .0) opens closes }
       where
         positive : (s : ℕ) → Stands (gap b) (bitsFor n) m s → 1 ≤ s
         positive zero o = absurd (omega (arith, o .rank, sumBelow-zero (gap b)))
@@ -342,7 +262,7 @@ module _ (i : Image) where
             let few : m ≤ n + 1 = omega (arith, a .zeros, sumBelow-suc (gap b) (suc q), gap-zero b (suc q) next) in
             let c = a .plain m l few (omega arith) .1 in
             let run = children-to-zero b small (bitsFor n) m q (suc q) closes follows .1 in
-            let is = c .is in
+            let told = c .answer in
             let none : c .count ≡ suc q - (q + 1) = cc in
             absurd (omega (arith, c .some))
 
@@ -360,45 +280,6 @@ module _ (i : Image) where
             (λ f. bitFits-closing (i .labels) (i .values) (b (suc q)) (b q) (onesBefore b (suc q)) (zerosBefore b (suc q)) e (λ z. omega arith))
             (λ f. bitFits-childless (i .labels) (i .values) (b (suc q)) (b q) (onesBefore b (suc q)) (zerosBefore b (suc q)) e f ∙ childlessFits-made (i .labels) (i .values) (zerosBefore b (suc q)) (accepted-closed q hi f e))
             (bit-either (i .words) q)
-
--- ---- the ends of the sequence
-
--- the two first bits, by the first word
-first-bits : (ws : List ℕ) → ((bit ws 0 ≡ 1) × (bit ws 1 ≡ 0)) ↔ (getD ws 0 0 % 4 ≡ 1)
-first-bits ws =
-    let x : ℕ = getD ws 0 0 in
-    let zeroth : bit ws 0 ≡ x % 2 = bit-in ws 0 0 (omega arith) ∙ ap (λ (y : ℕ). y % 2) (div-one x) in
-    let next : bit ws 1 ≡ x / 2 % 2 = bit-in ws 0 1 (omega arith) in
-    let parts : x % 4 ≡ x / 2 % 2 * 2 + x % 2 = mod-pow-add x 1 1 in
-    (λ h. omega (arith, h .0, h .1), λ h. (omega arith, omega arith))
-
--- the bits behind the sequence, by what the last word has above it
-unused-bits : (n : ℕ) (ws : List ℕ) → length ws ≡ wordsFor (bitsFor n) → getD ws (bitsFor n / wordBits) 0 / 2 ^ (bitsFor n % wordBits) ≡ 0
-    → (p : ℕ) → bitsFor n ≤ p → bit ws p ≡ 0
-unused-bits n ws l e p h = go (decLt (p / wordBits) (length ws))
-  where
-    w : ℕ
-    w = bitsFor n / wordBits
-
-    u : ℕ
-    u = bitsFor n % wordBits
-
-    go : Dec (p / wordBits < length ws) → bit ws p ≡ 0
-    go (no out) = bit-beyond ws p (omega arith)
-    go (yes inside) =
-        let j : ℕ = p - w * wordBits in
-        let at : p ≡ w * wordBits + (u + (j - u)) = omega (arith, l) in
-        let low : u + (j - u) < wordBits = omega (arith, l) in
-        ap (bit ws) at ∙ bit-in ws w (u + (j - u)) low ∙ ap (λ (x : ℕ). x % 2) (sym (shr-shr (getD ws w 0) u (j - u)) ∙ ap (λ (x : ℕ). x / 2 ^ (j - u)) e ∙ zero-div (2 ^ (j - u)))
-
-unused-word : (n : ℕ) (ws : List ℕ) → ((w : ℕ) → getD ws w 0 < 2 ^ wordBits) → ((p : ℕ) → bitsFor n ≤ p → bit ws p ≡ 0)
-    → getD ws (bitsFor n / wordBits) 0 / 2 ^ (bitsFor n % wordBits) ≡ 0
-unused-word n ws wide h =
-    let w : ℕ = bitsFor n / wordBits in
-    let u : ℕ = bitsFor n % wordBits in
-    let whole : wordBits ≡ (wordBits - u) + u = omega arith in
-    high-none (getD ws w 0) u (wordBits - u) (subst (λ (x : ℕ). getD ws w 0 < 2 ^ x) whole (wide w)) (λ j l.
-    sym (bit-in ws w (u + j) (omega arith)) ∙ h (w * wordBits + (u + j)) (omega arith))
 
 -- ---- the test
 

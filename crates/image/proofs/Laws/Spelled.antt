@@ -8,11 +8,11 @@
 --     spelled-parent-of   every node of 2 or more is one of them, for some k
 --     spelled-length      the words have as many bits as the degrees spell
 -- Assumes nothing.
-use mathlib.Core.Path.{_≡_, refl, sym, ap, ap₂, _∙_, subst}
-use Prim.Native.Nat.{ℕ, zero, suc, _+_, _-_, _*_, _≤_, _<_}
+use mathlib.Core.Path.{_≡_, sym, ap, _∙_}
+use Prim.Native.Nat.{ℕ, suc, _+_, _-_, _≤_, _<_}
 use native.Mathlib.Nat.{le-refl}
 use native.Mathlib.Omega.{arith}
-use mathlib.Core.List.{List, [], _∷_}
+use mathlib.Core.List.{List}
 use lib.ListN.{length, getD, take, List·getD-eq-default}
 use lib.Seq.{take-all}
 use Rattle.keymap.specs.Bits.{bit, sumBelow, pack, wordsFor}
@@ -25,7 +25,7 @@ use Rattle.louds.specs.declared.Kids.the-variants.{Run}
 use Rattle.louds.specs.declared.Up.the-variants.{Node}
 use Rattle.louds.specs.Rank.{gap, onesBefore, zerosBefore}
 use Rattle.louds.proofs.Laws.Rank.{gap-small, ones-zeros, zeros-ext}
-use Rattle.louds.proofs.Laws.Select.{Found, rank-kth, kth-exists}
+use Rattle.louds.proofs.Laws.Select.{rank-kth, kth-exists}
 use Rattle.louds.proofs.Laws.Nodes.{parent-of-child}
 use Rattle.louds.proofs.Laws.Degrees.{zeroAt-sequence, children-pack}
 use Rattle.image.specs.Accept.{entries, parentIn, kidsIn}

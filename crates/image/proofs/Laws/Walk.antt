@@ -5,21 +5,21 @@
 --     Step          what an image tells of the first of some siblings, and where its children stand
 --     walk-step     each such entry is so told
 -- Assumes nothing.
-use mathlib.Core.Path.{_≡_, refl, sym, ap, ap₂, _∙_, subst}
+use mathlib.Core.Path.{_≡_, sym, ap, ap₂, _∙_}
 use Prim.Native.Nat.{ℕ, suc, _+_, _≤_, _<_}
 use native.Mathlib.Omega.{arith}
-use mathlib.Core.List.{List, _∷_, map}
+use mathlib.Core.List.{_∷_}
 use mathlib.Core.Option.{Option}
-use lib.ListN.{length, getD}
+use lib.ListN.{getD}
 use Rattle.keymap.specs.Label.{labelEntry, valueWord}
 use Rattle.keymap.specs.Bits.{sumBelow}
 use Rattle.keymap.specs.Image.{Image}
 use Rattle.keymap.specs.Forest.{Forest, node, size, width}
-use Rattle.keymap.specs.BreadthFirst.{rows, rowLabel, rowValue, forestImage}
+use Rattle.keymap.specs.BreadthFirst.{forestImage}
 use Rattle.keymap.specs.Decode.{decode}
 use Rattle.keymap.proofs.Laws.Sums.{sumBelow-zero, sumBelow-ext}
 use Rattle.keymap.proofs.Laws.BreadthFirst.{Item}
-use Rattle.keymap.proofs.Laws.Items.{itemDegree, itemDegree-top, entryItem, Siblings, siblings-top, siblings-inside, siblings-here, siblings-kids, siblings-degree, children-beyond}
+use Rattle.keymap.proofs.Laws.Items.{itemDegree, itemDegree-top, Siblings, siblings-top, siblings-inside, siblings-here, siblings-kids, siblings-degree, children-beyond}
 use Rattle.keymap.proofs.Laws.Entries.{getD-labels, getD-values}
 use Rattle.keymap.proofs.Laws.Shape.{shape-degree, shape-size}
 use Rattle.louds.specs.declared.Kids.the-variants.{Run}

@@ -16,13 +16,12 @@ use lib.Dec.{lit<}
 use lib.ListN.{length, getD, length-map, List·getD-map}
 use Rattle.keymap.specs.Limits.{byteLimit}
 use Rattle.keymap.specs.Label.{mark, labelEntry, valueWord, labelIn, valueIn}
-use Rattle.keymap.specs.Bits.{sumBelow}
 use Rattle.keymap.specs.Degrees.{total}
 use Rattle.keymap.specs.Forest.{Forest, ByteLabels, size, width}
 use Rattle.keymap.specs.BreadthFirst.{Row, rows, rowLabel, rowValue, rowDegree}
 use Rattle.keymap.proofs.Laws.Sums.{sumBelow-ext}
 use Rattle.keymap.proofs.Laws.Label.{labelIn-labelEntry, valueIn-labelEntry}
-use Rattle.keymap.proofs.Laws.BreadthFirst.{Item, queue, row, rows-queue, length-rows}
+use Rattle.keymap.proofs.Laws.BreadthFirst.{queue, row, rows-queue, length-rows}
 use Rattle.keymap.proofs.Laws.Image.{ByteRows, rows-bytes, total-rows}
 use Rattle.keymap.proofs.Laws.Items.{nobody, allItems, itemDegree, entryItem, children-beyond}
 use Rattle.keymap.proofs.Laws.Rebuilt.{Told}

@@ -21,13 +21,14 @@ use native.Mathlib.Nat.{le-of-suc-le-suc, not-suc-le-zero, lt-irrefl, add-zero, 
 use native.Mathlib.Omega.{arith}
 use mathlib.Core.List.{List, [], _∷_}
 use mathlib.Core.Option.{Option, none, some}
-use lib.ListN.{length, getD, length-append, List·getD-append}
+use lib.ListN.{length, getD, length-append, length-map, List·getD-append}
 use lib.Seq.{getD-append-add}
 use Rattle.keymap.specs.Bits.{sumBelow}
 use Rattle.keymap.specs.Forest.{Forest, empty, node, Above, Live, Orderly, size, width, join}
+use Rattle.keymap.specs.BreadthFirst.{rows}
 use Rattle.keymap.proofs.Laws.Sums.{sumBelow-zero, sumBelow-suc, sumBelow-first, sumBelow-mono}
 use Rattle.keymap.proofs.Laws.Forest.{size-join, width-join}
-use Rattle.keymap.proofs.Laws.BreadthFirst.{Item, items, below, queue, queue-law}
+use Rattle.keymap.proofs.Laws.BreadthFirst.{Item, items, below, queue, row, rows-queue, queue-law, length-rows}
 
 -- what stands beyond the last node
 abbrev pub nobody : Item
@@ -69,11 +70,9 @@ length-below [] = sym (sumBelow-zero (kidsIn []))
 length-below (x ∷ xs) =
     omega (arith, length-append (items (x .kids)) (below xs), length-items (x .kids), length-below xs, sumBelow-first (kidsIn (x ∷ xs)) (length xs))
 
-length-queue : (n : ℕ) (f : Forest) → size f ≡ n → length (queue n f) ≡ n
-unfolding queue size
-length-queue zero f h = refl
-length-queue (suc n) empty h = absurd (omega arith)
-length-queue (suc n) (node a w kids next) h = ap suc (length-queue n (join next kids) (omega (arith, size-join next kids)))
+length-queue : (f : Forest) → length (queue (size f) f) ≡ size f
+unfolding rows
+length-queue f = sym (ap length (rows-queue (size f) f) ∙ length-map (queue (size f) f) row) ∙ length-rows f
 
 -- the queue never runs out before its last node: what was put into it is ahead of what was taken
 queue-ahead : (n : ℕ) (f : Forest) → size f ≡ n → (k : ℕ) → k < n → k < width f + sumBelow (kidsIn (queue n f)) k
@@ -104,7 +103,7 @@ module _ (f : Forest) where
 
   length-allItems : length (allItems f) ≡ suc (size f)
   unfolding allItems
-  length-allItems = ap suc (length-queue (size f) f refl)
+  length-allItems = ap suc (length-queue f)
 
   -- the children of the node at index k are the entries from the sum of the degrees before it on
   children-entries : (k j : ℕ) → j < itemDegree f k → entryItem f (sumBelow (itemDegree f) k + j) ≡ getD (items ((getD (allItems f) k nobody) .kids)) j nobody
@@ -114,7 +113,7 @@ module _ (f : Forest) where
   pub degrees-all : sumBelow (itemDegree f) (suc (size f)) ≡ size f
   unfolding itemDegree
   degrees-all =
-      ap (sumBelow (kidsIn (allItems f))) (sym length-allItems) ∙ sym (length-below (allItems f)) ∙ ap length (sym queue-below) ∙ length-queue (size f) f refl
+      ap (sumBelow (kidsIn (allItems f))) (sym length-allItems) ∙ sym (length-below (allItems f)) ∙ ap length (sym queue-below) ∙ length-queue f
 
   children-within : (k : ℕ) → k ≤ size f → sumBelow (itemDegree f) k + itemDegree f k ≤ size f
   children-within k h =

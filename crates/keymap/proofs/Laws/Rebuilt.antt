@@ -15,10 +15,9 @@ use native.Mathlib.Nat.{zero-add}
 use native.Mathlib.Omega.{arith}
 use mathlib.Core.List.{List, [], _∷_, map}
 use lib.ListN.{length, getD, take, drop, length-map}
-use Rattle.keymap.specs.Label.{mark, labelEntry, valueWord}
+use Rattle.keymap.specs.Label.{mark}
 use Rattle.keymap.specs.Bits.{sumBelow, pack}
 use Rattle.keymap.specs.Degrees.{total, sequence}
-use Rattle.keymap.specs.Image.{Image}
 use Rattle.keymap.specs.Forest.{Forest, empty, node, ByteLabels, size, width}
 use Rattle.keymap.specs.BreadthFirst.{Row, rows, rowLabel, rowValue, rowDegree, forestBits, forestImage}
 use Rattle.keymap.specs.Decode.{takeTrees, dropTrees, claim, rebuild, rowsFrom}

@@ -29,7 +29,7 @@ use Rattle.keymap.specs.Label.{mark, labelIn, valueIn}
 use Rattle.keymap.specs.Bits.{sumBelow, pack}
 use Rattle.keymap.specs.Degrees.{sequence}
 use Rattle.keymap.specs.Image.{Image, image}
-use Rattle.keymap.specs.Forest.{Forest, empty, node, Tree, treeOf, ownEntry, behindLabel, listForest, listTree, Orderly, ByteLabels, size, width, join}
+use Rattle.keymap.specs.Forest.{Forest, empty, node, treeOf, ownEntry, behindLabel, listForest, listTree, Orderly, ByteLabels, size, width, join}
 use Rattle.keymap.specs.BreadthFirst.{rows, rowLabel, rowValue, rowDegree, forestBits, forestImage}
 use Rattle.keymap.specs.Decode.{rebuild, rowsFrom, decode, imageMap}
 use Rattle.keymap.proofs.Laws.Sums.{sumBelow-ext}

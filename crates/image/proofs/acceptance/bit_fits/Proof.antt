@@ -1,7 +1,6 @@
 -- `image::acceptance::bit_fits` meets its contract: the bit and the one before it decide which case of `bitFits` holds. Assumes nothing.
 use mathlib.Core.Path.{sym, _∙_}
 use borrow.Author.Needs.{needs}
-use native.Mathlib.Omega.{arith}
 use Rattle.image.proofs.Laws.AcceptTest.{bitFits-one, bitFits-closing, bitFits-childless}
 use Rattle.image.proofs.acceptance.bit_fits.Statement.{statement}
 use Rattle.image.proofs.acceptance.bit_fits.Tie as tie

@@ -1,6 +1,5 @@
 -- `image::acceptance::childless_fits` meets its contract: beyond the last entry `getD` is 0, which is not marked. Assumes nothing.
 use mathlib.Core.Path.{sym, ap, _∙_}
-use Prim.Native.Nat.{ℕ}
 use lib.ListN.{List·getD-eq-default}
 use lib.Dec.{leb}
 use borrow.Author.Needs.{needs}

@@ -1,4 +1,5 @@
 -- The answers in 01's numbers: done is 0, a count n is 0 and n, a refusal is its number.
+-- Assumes nothing.
 use Prim.Native.Nat.{ℕ}
 use mathlib.Core.Bool.{Bool, false}
 use mathlib.Core.List.{List, [], _∷_}

@@ -7,6 +7,7 @@
 --     marked          a record given its mark and a value
 --     SoundBut        a pool that is sound but for a record that has neither value nor child yet
 --     CanEnter        what entering a record asks
+-- Assumes nothing.
 use Prim.Native.Nat.{ℕ, _+_, _*_, _≤_, _<_}
 use mathlib.Core.Path.{_≡_}
 use mathlib.Core.Bool.{cond}
@@ -18,9 +19,9 @@ use Rattle.keymap.specs.Label.{mark}
 use Rattle.keymap.specs.Key.{Key, Bytes}
 use Rattle.records.specs.Words.{Pool, recordWords, put, entry, label, value, firstChild, nextSibling, parent, lastRecord, usedCount, InUse, Node, nextRecord, taken, capacity}
 use Rattle.records.specs.Sound.{Children}
+use Rattle.records.specs.Spelling.{Stops}
 use Rattle.pool.specs.declared.siblings.Slot.{Slot}
-use Rattle.pool.specs.Siblings.{slotOf, childAt}
-use Rattle.pool.specs.Path.{Ends}
+use Rattle.pool.specs.Siblings.{slotOf}
 
 -- all of record c lies in the pool
 abbrev pub Inside : Pool → ℕ → Type 0
@@ -74,7 +75,7 @@ pub record CanEnter (p : Pool) (i b : ℕ) : Type 0 where
   pub sound : SoundBut p i
   pub node : Node p i
   pub byte : b < byteLimit
-  pub absent : childAt p i b ≡ 0
+  pub absent : Stops p i (b ∷ [])
   pub room : usedCount p + 1 ≤ capacity p
 
 -- these bytes can be entered below i, one below the other
@@ -82,5 +83,5 @@ pub record CanEnterAll (p : Pool) (i : ℕ) (bs : Key) : Type 0 where
   pub sound : SoundBut p i
   pub node : Node p i
   pub bytes : Bytes bs
-  pub ends : Ends p i bs
+  pub ends : Stops p i bs
   pub room : usedCount p + length bs ≤ capacity p

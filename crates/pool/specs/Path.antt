@@ -2,7 +2,7 @@
 --
 --     reachOf         the record that is reached, and how many bytes led there
 --     missingLabels   how many of the key's prefixes are not yet present
---     Leads           some bytes lead from one record to another
+-- Assumes nothing.
 use Prim.Native.Nat.{ℕ, _+_, _-_, _<_}
 use mathlib.Core.Path.{_≡_}
 use mathlib.Core.Bool.{cond}
@@ -27,12 +27,3 @@ reachOf p key = reachFrom p 0 0 key
 
 unfoldable pub missingLabels : Pool → Key → ℕ
 missingLabels p key = length key - reachOf p key .depth
-
-abbrev pub Leads : Pool → ℕ → Key → ℕ → Type 0
-Leads p i [] j = i ≡ j
-Leads p i (b ∷ bs) j = (0 < childAt p i b) × Leads p (childAt p i b) bs j
-
--- the first of these bytes leads nowhere from record i
-abbrev pub Ends : Pool → ℕ → Key → Type 0
-Ends p i [] = Unit {0}
-Ends p i (b ∷ bs) = childAt p i b ≡ 0

@@ -5,6 +5,7 @@
 --     pushSays        what it answers
 --     pushPool        what it leaves: a refusal leaves the pool as it was
 --     TestedPush      what a push into a sound pool promises
+-- Assumes nothing.
 use Prim.Native.Nat.{ℕ, _+_}
 use mathlib.Core.Path.{_≡_}
 use mathlib.Core.Bool.{Bool, cond}

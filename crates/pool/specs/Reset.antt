@@ -1,4 +1,5 @@
 -- Reset: "zeroes record 0 of any pool of 5 words or more" (01).
+-- Assumes nothing.
 use Prim.Native.Nat.{ℕ}
 use mathlib.Core.Bool.{cond}
 use mathlib.Core.List.{List, [], _∷_}

@@ -2,6 +2,7 @@
 --
 --     slotOf        where a label stands among them, or would stand
 --     childAt       the child with a label
+-- Assumes nothing.
 use Prim.Native.Nat.{ℕ, zero, suc}
 use mathlib.Core.Bool.{cond}
 use lib.Dec.{ltb, eqb}

@@ -1,4 +1,5 @@
 -- The use count: "the number n of other records in use" (01).
+-- Assumes nothing.
 use Prim.Native.Nat.{ℕ}
 use mathlib.Core.Bool.{cond}
 use mathlib.Core.List.{List, [], _∷_}

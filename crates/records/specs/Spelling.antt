@@ -2,6 +2,7 @@
 --
 --     ChildBy       a record is the child of another with a label
 --     Spells        some bytes are the labels on the way from a record down to another
+--     Stops         the first of some bytes leads nowhere from a record
 --     pathOf        the labels on the way from the root down to a record, by climbing
 --     Climbs        a record reaches the root through parents in use
 -- Assumes nothing.
@@ -20,6 +21,10 @@ ChildBy p i b x = InUse p x × (parent p x ≡ i) × (label p x ≡ b)
 abbrev pub Spells : Pool → ℕ → Key → ℕ → Type 0
 Spells p i [] c = i ≡ c
 Spells p i (b ∷ bs) c = (x : ℕ) × ChildBy p i b x × Spells p x bs c
+
+abbrev pub Stops : Pool → ℕ → Key → Type 0
+Stops p c [] = Unit {0}
+Stops p c (b ∷ bs) = (x : ℕ) → ChildBy p c b x → ⊥
 
 -- within f steps up
 unfoldable pub pathUp : ℕ → Pool → ℕ → Key

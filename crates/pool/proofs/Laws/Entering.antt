@@ -26,14 +26,14 @@ use Rattle.keymap.specs.Label.{mark, labelIn}
 use Rattle.keymap.specs.Key.{Key}
 use Rattle.records.specs.Words.{Pool, recordWords, word, put, entry, label, value, firstChild, nextSibling, parent, lastRecord, usedCount, InUse, Node, nextRecord, taken, capacity}
 use Rattle.records.specs.Sound.{In, Chain, LabelsRise, Fits, Children, Sound}
+use Rattle.records.specs.Spelling.{Stops}
 use Rattle.records.proofs.Laws.Distinct.{Once, equal-or-not, below-or-not}
 use Rattle.records.proofs.Laws.Words.{word-put-same, word-put-other, length-put, last-put-other, count-last, node-within, parent-node, next-last, next-unused, length-taken, word-taken, last-taken, in-use-taken, in-use-stays, next-in-use, count-taken}
 use Rattle.records.proofs.Laws.Sound.{chain-same, chain-starts, rises-same, rises-distinct, children-most}
 use Rattle.pool.specs.declared.siblings.Slot.{Slot}
 use Rattle.pool.specs.Siblings.{slot, slotFrom, slotOf}
-use Rattle.pool.specs.Path.{Ends}
 use Rattle.pool.specs.Entering.{Inside, filled, linked, enteredAt, entered, enteredAll, lastEntered, marked, FitsBut, SoundBut, CanEnter, CanEnterAll}
-use Rattle.pool.proofs.Laws.Siblings.{slot-from-end, slot-from-here, slot-from-step, slot-from-prev, slot-of-start, slot-prev-child, slot-prev-node, slot-next-node, child-absent, child-leaf}
+use Rattle.pool.proofs.Laws.Siblings.{slot-from-end, slot-from-here, slot-from-step, slot-from-prev, slot-of-start, slot-prev-child, slot-prev-node, slot-next-node}
 
 -- ---- a record filled
 module _ (p : Pool) (c b x i : ℕ) where
@@ -418,12 +418,12 @@ module _ (p : Pool) (i b : ℕ) (can : CanEnter p i b) where
       entered-keeps p q i b (nextRecord p) (slotOf p i b .prev) (slotOf p i b .next) (can .sound) (can .node) (can .byte) enter-words
       (omega (arith, next-last p)) (next-unused p) (omega (arith, next-last p, node-within p i (can .node))) (omega (arith, next-last p, count-last p))
       (in-use-taken p q l) (in-use-stays p q l) (next-in-use p q l) (omega (arith, next-last p))
-      (slot-prev-child p i b K) (slot-next-node p i b K) (slot-of-start p i b) (child-absent p i b K (can .absent))
+      (slot-prev-child p i b K) (slot-next-node p i b K) (slot-of-start p i b) (λ k h e. let o = K .only k h in can .absent k (o .0, o .1, e))
 
 -- ---- a record for each byte
-ends-leaf : (p : Pool) (i : ℕ) (bs : Key) → firstChild p i ≡ 0 → Ends p i bs
-ends-leaf p i [] z = tt
-ends-leaf p i (b ∷ bs) z = child-leaf p i b z
+stops-leaf : (p : Pool) (c : ℕ) (bs : Key) → Children p c → firstChild p c ≡ 0 → Stops p c bs
+stops-leaf p c [] k z = tt
+stops-leaf p c (b ∷ bs) k z = λ x h. omega (arith, chain-starts (nextSibling p) (firstChild p c) (k .kids) (k .chain) x (k .all x (h .0) (h .1)))
 
 module _ (p : Pool) (i b : ℕ) (bs : Key) (all : CanEnterAll p i (b ∷ bs)) where
   pub can-enter : CanEnter p i b
@@ -437,7 +437,9 @@ module _ (p : Pool) (i b : ℕ) (bs : Key) (all : CanEnterAll p i (b ∷ bs)) wh
         sound = enter-keeps p i b can-enter;
         node = enter-node p i b can-enter;
         bytes = all .bytes .1;
-        ends = ends-leaf (entered p i b) (nextRecord p) bs (enter-words p i b can-enter .own-child);
+        ends =
+            stops-leaf (entered p i b) (nextRecord p) bs (enter-keeps p i b can-enter .children (nextRecord p) (enter-node p i b can-enter))
+            (enter-words p i b can-enter .own-child);
         room = omega (arith, enter-count p i b can-enter);
       }
 

@@ -2,8 +2,7 @@
 --
 --     reach-..        the walk's cases: the key's end, no such child, one step on
 --     reach-split     where the walk cuts the key
---     leads-node      a path leads to records in use
---     leads-positive  and from the root, if it has a byte, to another record than the root
+--     split-..        what that says of the bytes that are missing
 -- Assumes nothing.
 use Prim.Native.Nat.{ℕ, suc, _+_, _-_, _≤_, _<_}
 use mathlib.Core.Path.{_≡_, refl, ap}
@@ -17,12 +16,13 @@ use lib.Seq.{drop-cons, drop-append-seam}
 use lib.Dec.{eqb}
 use borrow.Author.Tests.{eq-eqb, ne-eqb, eqb-true, eqb-false}
 use Rattle.keymap.specs.Key.{Key, Bytes}
-use Rattle.records.specs.Words.{Pool, Node}
+use Rattle.records.specs.Words.{Pool, InUse, Node}
 use Rattle.records.specs.Sound.{Children}
+use Rattle.records.specs.Spelling.{Spells, Stops}
 use Rattle.pool.specs.declared.path.Reach.{Reach}
 use Rattle.pool.specs.Siblings.{childAt}
-use Rattle.pool.specs.Path.{reached, reachFrom, reachOf, missingLabels, Leads, Ends}
-use Rattle.pool.proofs.Laws.Siblings.{child-node}
+use Rattle.pool.specs.Path.{reached, reachFrom, reachOf, missingLabels}
+use Rattle.pool.proofs.Laws.Siblings.{child-is, child-absent}
 
 module _ (p : Pool) (key : Key) (i d : ℕ) where
   pub reach-end : length key ≤ d → reachFrom p i d (drop d key) ≡ reached i d
@@ -46,29 +46,33 @@ pub record Split (p : Pool) (i d : ℕ) (bs : Key) (r : Reach) : Type 0 where
   pub rest : Key
   pub whole : bs ≡ there ++ rest
   pub depth : r .depth ≡ d + length there
-  pub leads : Leads p i there (r .at)
-  pub ends : Ends p (r .at) rest
+  pub spells : Spells p i there (r .at)
+  pub stops : Stops p (r .at) rest
 
-split-from : (p : Pool) (i d : ℕ) (bs : Key) → Split p i d bs (reachFrom p i d bs)
-unfolding reachFrom
-split-from p i d [] = record { there = []; rest = []; whole = refl; depth = omega arith; leads = refl; ends = tt }
-split-from p i d (b ∷ bs) = go (eqb (childAt p i b) 0) refl (split-from p (childAt p i b) (d + 1) bs)
-  where
-    go : (t : Bool) → eqb (childAt p i b) 0 ≡ t → Split p (childAt p i b) (d + 1) bs (reachFrom p (childAt p i b) (d + 1) bs)
-        → Split p i d (b ∷ bs) (cond t (reached i d) (reachFrom p (childAt p i b) (d + 1) bs))
-    go true e r = record { there = []; rest = b ∷ bs; whole = refl; depth = omega arith; leads = refl; ends = eqb-true _ _ e }
-    go false e r = record {
-      there = b ∷ r .there;
-      rest = r .rest;
-      whole = ap (λ (l : Key). b ∷ l) (r .whole);
-      depth = omega (arith, r .depth);
-      leads = (omega (arith, eqb-false (childAt p i b) 0 e), r .leads);
-      ends = r .ends;
-    }
+module _ (p : Pool) (K : (c : ℕ) → Node p c → Children p c) where
+  split-from : (bs : Key) (i d : ℕ) → Node p i → Split p i d bs (reachFrom p i d bs)
+  unfolding reachFrom
+  split-from [] i d n = record { there = []; rest = []; whole = refl; depth = omega arith; spells = refl; stops = tt }
+  split-from (b ∷ bs) i d n = go (eqb (childAt p i b) 0) refl (λ u. split-from bs (childAt p i b) (d + 1) (inr u))
+    where
+      go : (t : Bool) → eqb (childAt p i b) 0 ≡ t → (InUse p (childAt p i b) → Split p (childAt p i b) (d + 1) bs (reachFrom p (childAt p i b) (d + 1) bs))
+          → Split p i d (b ∷ bs) (cond t (reached i d) (reachFrom p (childAt p i b) (d + 1) bs))
+      go true e on = record { there = []; rest = b ∷ bs; whole = refl; depth = omega arith; spells = refl; stops = child-absent p i b (K i n) (eqb-true _ _ e) }
+      go false e on =
+          let c = child-is p i b (K i n) (omega (arith, eqb-false (childAt p i b) 0 e)) in
+          let r = on (c .0) in
+          record {
+            there = b ∷ r .there;
+            rest = r .rest;
+            whole = ap (λ (l : Key). b ∷ l) (r .whole);
+            depth = omega (arith, r .depth);
+            spells = (childAt p i b, c, r .spells);
+            stops = r .stops;
+          }
 
-pub reach-split : (p : Pool) (key : Key) → Split p 0 0 key (reachOf p key)
-unfolding reachOf
-reach-split p key = split-from p 0 0 key
+  pub reach-split : (key : Key) → Split p 0 0 key (reachOf p key)
+  unfolding reachOf
+  reach-split key = split-from key 0 0 (inl refl)
 
 module _ (p : Pool) (key : Key) (s : Split p 0 0 key (reachOf p key)) where
   pub split-rest : drop (reachOf p key .depth) key ≡ s .rest
@@ -82,15 +86,6 @@ module _ (p : Pool) (key : Key) (s : Split p 0 0 key (reachOf p key)) where
 
   pub split-within : reachOf p key .depth ≤ length key
   split-within = omega (arith, s .depth, ap length (s .whole), length-append (s .there) (s .rest))
-
-pub leads-node : (p : Pool) → ((c : ℕ) → Node p c → Children p c) → (i : ℕ) (bs : Key) (j : ℕ) → Node p i → Leads p i bs j → Node p j
-leads-node p K i [] j h l = rw (← l) h
-leads-node p K i (b ∷ bs) j h l = leads-node p K (childAt p i b) bs j (child-node p i b (K i h)) (l .1)
-
-pub leads-positive : (p : Pool) (i : ℕ) (bs : Key) (j : ℕ) → (0 < i) ⊎ (0 < length bs) → Leads p i bs j → 0 < j
-leads-positive p i [] j (inl h) l = omega arith
-leads-positive p i [] j (inr h) l = absurd (omega arith)
-leads-positive p i (b ∷ bs) j h l = leads-positive p (childAt p i b) bs j (inl (l .0)) (l .1)
 
 pub bytes-from : (l : Key) → ((i : ℕ) → getD l i 0 < 256) → Bytes l
 bytes-from [] h = tt

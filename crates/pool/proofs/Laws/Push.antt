@@ -21,6 +21,7 @@ use Rattle.keymap.specs.Refusals.{Refusal, refusalNumber}
 use Rattle.records.specs.Words.{Pool, recordWords, usedCount, InUse, Node, capacity}
 use Rattle.records.specs.Sound.{Sound}
 use Rattle.records.specs.SoundTest.{soundTest}
+use Rattle.records.proofs.Laws.Spelling.{spells-node, spells-in-use}
 use Rattle.records.proofs.Laws.SoundTest.{test-sound}
 use Rattle.pool.specs.declared.answers.Pushed.{Pushed}
 use Rattle.pool.specs.declared.path.Reach.{Reach}
@@ -28,7 +29,7 @@ use Rattle.pool.specs.Answers.{saidPushed, accepted}
 use Rattle.pool.specs.Path.{reachOf, missingLabels}
 use Rattle.pool.specs.Entering.{enteredAll, lastEntered, marked, Inside, CanEnterAll}
 use Rattle.pool.specs.Push.{insertedAt, inserted, hasRoom, testedSays, pushSays, pushPool, TestedPush}
-use Rattle.pool.proofs.Laws.Path.{Split, reach-split, split-rest, split-missing, split-within, leads-node, leads-positive, bytes-right}
+use Rattle.pool.proofs.Laws.Path.{Split, reach-split, split-rest, split-missing, split-within, bytes-right}
 use Rattle.pool.proofs.Laws.Entering.{sound-but, node-inside, EnteredAll, entered-all, mark-keeps}
 
 module _ (p : Pool) (key : Key) where
@@ -69,22 +70,22 @@ module _ (p : Pool) (key : Key) where
   push-left v q e f = f ∙ rw e refl
 
 -- ---- the insert
-module _ (p : Pool) (key : Key) (v : ℕ) (s : Sound p) (bytes : Bytes key) (some : length key ≡ 0 → ⊥) (room : usedCount p + missingLabels p key ≤ capacity p) where
+module _ (p : Pool) (key : Key) (v : ℕ) (s : Sound p) (bytes : Bytes key) (nonempty : length key ≡ 0 → ⊥) (room : usedCount p + missingLabels p key ≤ capacity p) where
   abbrev r : Reach
   r = reachOf p key
 
   cut : Split p 0 0 key (reachOf p key)
-  cut = reach-split p key
+  cut = reach-split p (s .children) key
 
   reached-node : Node p (r .at)
-  reached-node = leads-node p (s .children) 0 (cut .there) (r .at) (inl refl) (cut .leads)
+  reached-node = spells-node p 0 (cut .there) (r .at) (inl refl) (cut .spells)
 
   can-rest : CanEnterAll p (r .at) (cut .rest)
   can-rest = record {
     sound = sound-but p (r .at) s;
     node = reached-node;
     bytes = bytes-right (cut .there) (cut .rest) (subst Bytes (cut .whole) bytes);
-    ends = cut .ends;
+    ends = cut .stops;
     room = omega (arith, split-missing p key cut);
   }
 
@@ -101,8 +102,8 @@ module _ (p : Pool) (key : Key) (v : ℕ) (s : Sound p) (bytes : Bytes key) (som
   started = go (cut .there) refl
     where
       go : (xs : Key) → xs ≡ cut .there → (0 < r .at) ⊎ (0 < length (drop (r .depth) key))
-      go [] q = inr (rw (split-rest p key cut) (omega (arith, lens, some, ap length q)))
-      go (x ∷ xs) q = inl (leads-positive p 0 (cut .there) (r .at) (inr (omega (arith, ap length q))) (cut .leads))
+      go [] q = inr (rw (split-rest p key cut) (omega (arith, lens, nonempty, ap length q)))
+      go (x ∷ xs) q = inl (spells-in-use p 0 (cut .there) (r .at) (inr (omega (arith, ap length q))) (inl refl) (cut .spells) .0)
 
   -- the record where the key ends
   pub end-in-use : InUse (enteredAll p (reachOf p key .at) (drop (reachOf p key .depth) key)) (lastEntered p (reachOf p key .at) (drop (reachOf p key .depth) key))
@@ -123,32 +124,32 @@ module _ (p : Pool) (key : Key) (v : ℕ) (s : Sound p) where
 
   module _ (r : Reach) (walked : r ≡ reachOf p key) where
     pub depth-within : r .depth ≤ length key
-    depth-within = rw walked (split-within p key (reach-split p key))
+    depth-within = rw walked (split-within p key (reach-split p (s .children) key))
 
     pub full-refused : (length key ≡ 0 → ⊥) → capacity p < usedCount p + (length key - r .depth) → TestedPush p key v Pushed.NoRoom p
     full-refused n h = tested-refused Pushed.NoRoom (tested-full p key n (omega (arith, missing-reach p key r walked))) refl
 
-    module _ (bytes : Bytes key) (some : length key ≡ 0 → ⊥) (room : usedCount p + (length key - r .depth) ≤ capacity p) where
+    module _ (bytes : Bytes key) (nonempty : length key ≡ 0 → ⊥) (room : usedCount p + (length key - r .depth) ≤ capacity p) where
       fits : usedCount p + missingLabels p key ≤ capacity p
       fits = omega (arith, missing-reach p key r walked)
 
       pub can-enter-from : CanEnterAll p (r .at) (drop (r .depth) key)
-      can-enter-from = rw walked (can-insert p key v s bytes some fits)
+      can-enter-from = rw walked (can-insert p key v s bytes nonempty fits)
 
       pub end-inside : (q : Pool) (t : ℕ) → q ≡ enteredAll p (r .at) (drop (r .depth) key) → t ≡ lastEntered p (r .at) (drop (r .depth) key) → Inside q t
-      end-inside q t e f = rw (e, f, walked) (end-within p key v s bytes some fits)
+      end-inside q t e f = rw (e, f, walked) (end-within p key v s bytes nonempty fits)
 
       pub done-accepted : (q : Pool) → q ≡ marked (enteredAll p (r .at) (drop (r .depth) key)) (lastEntered p (r .at) (drop (r .depth) key)) v → TestedPush p key v Pushed.Done q
       unfolding inserted insertedAt
       done-accepted q e =
-          let d = tested-done p key some fits in
+          let d = tested-done p key nonempty fits in
           let f : q ≡ inserted p key v = e ∙ rw walked refl in
-          record { answer = d; left = rw (← d) f; sound = rw f (insert-keeps p key v s bytes some fits) }
+          record { answer = d; left = rw (← d) f; sound = rw f (insert-keeps p key v s bytes nonempty fits) }
 
 -- ---- what an accepted answer tells
 pub record Accepted (p : Pool) (key : Key) : Type 0 where
   pub sound : Sound p
-  pub some : length key ≡ 0 → ⊥
+  pub nonempty : length key ≡ 0 → ⊥
   pub room : usedCount p + missingLabels p key ≤ capacity p
 
 pub push-accepted : (p : Pool) (key : Key) → accepted (pushSays p key) ≡ true → Accepted p key
@@ -161,7 +162,7 @@ push-accepted p key e =
         (refusalNumber Refusal.NotAPool ∷ []))) ≡ true → Accepted p key
     go true u w x a b c q = let z : _≡_ {A = ℕ} 0 1 = cc in absurd (omega arith)
     go false true true x a b c q = let z : _≡_ {A = ℕ} 0 1 = cc in absurd (omega arith)
-    go false true false true a b c q = record { sound = test-sound p a; some = eqb-false (length key) 0 b; room = leb-true _ _ c }
+    go false true false true a b c q = record { sound = test-sound p a; nonempty = eqb-false (length key) 0 b; room = leb-true _ _ c }
     go false true false false a b c q = let z : _≡_ {A = ℕ} 0 1 = cc in absurd (omega arith)
     go false false w x a b c q = let z : _≡_ {A = ℕ} 0 1 = cc in absurd (omega arith)
 
@@ -170,5 +171,5 @@ unfolding pushPool
 push-keeps p key v bytes s = go (accepted (pushSays p key)) refl
   where
     go : (t : Bool) → accepted (pushSays p key) ≡ t → Sound (cond t (inserted p key v) p)
-    go true e = let a = push-accepted p key e in insert-keeps p key v s bytes (a .some) (a .room)
+    go true e = let a = push-accepted p key e in insert-keeps p key v s bytes (a .nonempty) (a .room)
     go false e = s

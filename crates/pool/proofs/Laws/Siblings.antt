@@ -7,7 +7,7 @@
 --     child-here, child-none    the two cases of `childAt`
 --     child-found      the child with a label is the one
 --     child-is         what `childAt` gives is a child with that label
---     child-leaf       a record without children has none with any label
+--     child-absent     where it gives none there is none
 -- Assumes nothing.
 use Prim.Native.Nat.{ℕ, zero, suc, _+_, _-_, _≤_, _<_}
 use mathlib.Core.Path.{_≡_, refl, sym, _∙_, ap, subst}
@@ -21,6 +21,7 @@ use lib.Dec.{eqb}
 use borrow.Author.Tests.{le-ltb, lt-ltb, eq-eqb, ne-eqb, eqb-true}
 use Rattle.records.specs.Words.{Pool, label, firstChild, nextSibling, parent, lastRecord, InUse, Node}
 use Rattle.records.specs.Sound.{In, Chain, LabelsRise, Children}
+use Rattle.records.specs.Spelling.{ChildBy}
 use Rattle.records.proofs.Laws.Distinct.{equal-or-not, below-or-not}
 use Rattle.records.proofs.Laws.Sound.{rises-above, children-most}
 use Rattle.pool.specs.declared.siblings.Slot.{Slot}
@@ -107,19 +108,6 @@ module _ (p : Pool) (i b : ℕ) (s : Slot) (e : s ≡ slotOf p i b) where
   unfolding childAt
   child-none h = rw (← e) (simp (ne-eqb _ _ h))
 
-cond-zero : (t : Bool) (c : ℕ) → c ≡ 0 → cond t c 0 ≡ 0
-cond-zero true c e = e
-cond-zero false c e = refl
-
-pub child-leaf : (p : Pool) (i b : ℕ) → firstChild p i ≡ 0 → childAt p i b ≡ 0
-unfolding childAt slotOf
-child-leaf p i b e =
-    cond-zero (eqb (label p (slotOf p i b .next)) b) (slotOf p i b .next) (ap (λ (s : Slot). s .next) (slot-from-end p (lastRecord p) 0 (firstChild p i) b e) ∙ e)
-
--- record k is the child of i with label b
-abbrev pub ChildBy : Pool → (i b k : ℕ) → Type 0
-ChildBy p i b k = InUse p k × (parent p k ≡ i) × (label p k ≡ b)
-
 module _ (p : Pool) (i b : ℕ) (K : Children p i) where
   pub slot-prev-child : (slotOf p i b .prev ≡ 0) ⊎ In (slotOf p i b .prev) (K .kids)
   unfolding slotOf
@@ -153,9 +141,6 @@ module _ (p : Pool) (i b : ℕ) (K : Children p i) where
       go true q z = let o = K .only (slotOf p i b .next) (stands z) in (o .0, o .1, eqb-true _ _ q)
       go false q z = absurd (omega arith)
 
-  pub child-node : Node p (childAt p i b)
-  child-node = ⊎-elim (λ (z : 0 < childAt p i b). inr (child-is z .0)) (λ (z : childAt p i b ≤ 0). inl (omega arith)) (below-or-not 0 (childAt p i b))
-
   -- no child has the label where the search gives none
-  pub child-absent : childAt p i b ≡ 0 → (k : ℕ) → In k (K .kids) → label p k ≡ b → ⊥
-  child-absent z k h e = let o = K .only k h in omega (arith, child-found k (o .0, o .1, e), o .0 .0)
+  pub child-absent : childAt p i b ≡ 0 → (k : ℕ) → ChildBy p i b k → ⊥
+  child-absent z k c = omega (arith, child-found k c, c .0 .0)

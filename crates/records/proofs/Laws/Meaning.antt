@@ -10,35 +10,38 @@
 --     map-prefixes        its distinct nonempty prefixes are the paths of the records in use
 --     count-prefixes      so they are as many as the records in use
 --     count-forest        and as the nodes of the forest
+--     missing-rest        a key misses the bytes behind which its path stops
 -- Assumes nothing.
 use Prim.Native.Nat.{ℕ, zero, suc, _+_, _-_, _≤_, _<_}
 use mathlib.Core.Path.{_≡_, refl, sym, _∙_, ap, subst}
+use mathlib.Core.Bool.{Bool, true, false}
 use mathlib.Core.List.{List, [], _∷_, _++_, map}
 use mathlib.Core.Logic.{_⊎_, inl, inr, ⊎-elim, _↔_}
 use mathlib.Core.Option.{Option, none, some}
 use native.Mathlib.Omega.{arith}
 use native.Mathlib.Nat.{eq-or-lt-of-le}
 use lib.ListN.{length, length-append, length-map}
-use borrow.Author.Tests.{eq-eqb, ne-eqb, le-leb, lt-leb}
+use lib.Dec.{eqb}
+use borrow.Author.Tests.{eq-eqb, ne-eqb, eqb-false, le-leb, lt-leb}
 use Rattle.keymap.specs.Limits.{valueLimit}
 use Rattle.keymap.specs.Label.{mark}
 use Rattle.keymap.specs.Key.{Key, Bytes, PrefixOf}
-use Rattle.keymap.specs.Map.{Entry, Map, Rising, Proper, Catalogue, lookup}
+use Rattle.keymap.specs.Map.{Entry, Map, Rising, Proper, Catalogue, insert, lookup}
 use Rattle.keymap.specs.Members as members
 use mathlib.Core.List.{List·Memᴰ·not-nil, List·Memᴰ·cases-cons}
 use Rattle.keymap.specs.Queries.{SomeBegins}
-use Rattle.keymap.specs.Prefixes.{prefixes}
-use Rattle.keymap.specs.Forest.{Forest, empty, node, Tree, bare, branch, descend, valueAt, treeOf, listForest, listTree, Above, Live, Orderly, size}
-use Rattle.keymap.proofs.Laws.Forest.{valueAt-bare, valueAt-descend}
-use Rattle.keymap.proofs.Laws.Listing.{lookup-listTree, listTree-rising, treeOf-listTree}
+use Rattle.keymap.specs.Prefixes.{prefixes, missing}
+use Rattle.keymap.specs.Forest.{Forest, empty, node, Tree, bare, branch, descend, valueAt, grow, treeOf, listForest, listTree, Above, Live, Orderly, size}
+use Rattle.keymap.proofs.Laws.Forest.{freshLabel, freshNodes, valueAt-bare, valueAt-descend, grow-orderly, size-grow}
+use Rattle.keymap.proofs.Laws.Listing.{lookup-listTree, listTree-rising, listTree-grow, treeOf-listTree}
 use Rattle.keymap.proofs.Laws.Map.{lookup-iff}
 use Rattle.keymap.proofs.Laws.Begins.{prefix-iff, prefix-append}
 use Rattle.keymap.proofs.Laws.Members.{in-map, distinct-same, ordered-weak, ordered-map}
-use Rattle.keymap.proofs.Laws.Prefixes.{prefixes-iff, prefixes-distinct}
+use Rattle.keymap.proofs.Laws.Prefixes.{prefixes-iff, prefixes-distinct, prefixes-insert}
 use Rattle.keymap.proofs.Laws.LevelOrder.{length-prefixes}
 use Rattle.records.specs.Words.{Pool, entry, label, value, valueOf, firstChild, nextSibling, parent, lastRecord, usedCount, InUse, Node, Bounded}
 use Rattle.records.specs.Sound.{In, Chain, LabelsRise, Children, Sound}
-use Rattle.records.specs.Spelling.{ChildBy, Spells, pathOf}
+use Rattle.records.specs.Spelling.{ChildBy, Spells, Stops, pathOf}
 use Rattle.records.specs.Meaning.{siblingsFrom, forestBelow, poolForest, poolMap, Holds}
 use Rattle.records.proofs.Laws.Distinct.{below-or-not}
 use Rattle.records.proofs.Laws.Words.{count-last}
@@ -73,6 +76,21 @@ module _ (p : Pool) (below : ℕ → Forest) where
   unfolding branch
   branch-none [] b h = refl
   branch-none (y ∷ ys) b h = rw (ne-eqb b (label p y) (λ q. h y (inl refl) (sym q))) (branch-none ys b (λ x i. h x (inr i)))
+
+  fresh-found : (xs : List ℕ) (x b : ℕ) → In x xs → label p x ≡ b → freshLabel b (forestOf p below xs) ≡ 0
+  unfolding freshLabel
+  fresh-found [] x b i e = absurd i
+  fresh-found (y ∷ ys) x b i e = go (eqb b (label p y)) refl i (λ j. fresh-found ys x b j e)
+    where
+      go : (t : Bool) → eqb b (label p y) ≡ t → (x ≡ y) ⊎ In x ys → (In x ys → freshLabel b (forestOf p below ys) ≡ 0) → freshLabel b (forestOf p below (y ∷ ys)) ≡ 0
+      go true q j ih = rw q
+      go false q (inl j) ih = absurd (eqb-false b (label p y) q (sym e ∙ ap (λ (k : ℕ). label p k) j))
+      go false q (inr j) ih = rw q (ih j)
+
+  fresh-none : (xs : List ℕ) (b : ℕ) → ((x : ℕ) → In x xs → label p x ≡ b → ⊥) → freshLabel b (forestOf p below xs) ≡ 1
+  unfolding freshLabel
+  fresh-none [] b h = refl
+  fresh-none (y ∷ ys) b h = rw (ne-eqb b (label p y) (λ q. h y (inl refl) (sym q))) (fresh-none ys b (λ x i. h x (inr i)))
 
   -- each of the records has a value or something below it, and what is below it is orderly
   forest-of-orderly : (l : ℕ) (xs : List ℕ) → LabelsRise p l xs → ((x : ℕ) → In x xs → Live (valueOf p x) (below x) × Orderly (below x)) → Orderly (forestOf p below xs)
@@ -122,6 +140,34 @@ module _ (p : Pool) (K : (c : ℕ) → Node p c → Children p c) where
       (λ (g : (x : ℕ) → ChildBy p i b x → ⊥). subst (λ (t : Tree). valueAt bs t ≡ none) (sym (branch-childless (suc f) i b n g)) (valueAt-bare bs))
       (child-or-not p K i b n)
 
+  -- ---- how many nodes of a path are not there
+  fresh-child : (f i b x : ℕ) → Node p i → ChildBy p i b x → freshLabel b (forestBelow (suc f) p i) ≡ 0
+  fresh-child f i b x n c = rw (below-children f i n) (fresh-found p (forestBelow f p) (K i n .kids) x b (K i n .all x (c .0) (c .1)) (c .2))
+
+  fresh-childless : (f i b : ℕ) → Node p i → ((x : ℕ) → ChildBy p i b x → ⊥) → freshLabel b (forestBelow f p i) ≡ 1
+  unfolding forestBelow freshLabel
+  fresh-childless zero i b n h = refl
+  fresh-childless (suc f) i b n h =
+      rw (below-children f i n) (fresh-none p (forestBelow f p) (K i n .kids) b (λ x m e. let o = K i n .only x m in h x (o .0, o .1, e)))
+
+  fresh-bare : (k : Key) → freshNodes k bare ≡ length k
+  unfolding freshNodes freshLabel branch
+  fresh-bare [] = refl
+  fresh-bare (b ∷ k) = omega (arith, fresh-bare k)
+
+  fresh-stops : (rest : Key) (f i : ℕ) (w : Option ℕ) → Node p i → Stops p i rest → freshNodes rest (w, forestBelow f p i) ≡ length rest
+  unfolding freshNodes
+  fresh-stops [] f i w n h = refl
+  fresh-stops (b ∷ bs) f i w n h = rw (fresh-childless f i b n h, branch-childless f i b n h) (omega (arith, fresh-bare bs))
+
+  fresh-rest : (bs rest : Key) (f i c : ℕ) (w : Option ℕ) → Node p i → Spells p i bs c → length bs ≤ f → Stops p c rest → freshNodes (bs ++ rest) (w, forestBelow f p i) ≡ length rest
+  unfolding freshNodes
+  fresh-rest [] rest f i c w n s l h = fresh-stops rest f i w n (subst (λ (k : ℕ). Stops p k rest) (sym s) h)
+  fresh-rest (b ∷ bs) rest zero i c w n s l h = absurd (omega arith)
+  fresh-rest (b ∷ bs) rest (suc f) i c w n s l h =
+      rw (fresh-child f i b (s .0) n (s .1), branch-child f i b (s .0) n (s .1))
+      (omega (arith, fresh-rest bs rest f (s .0) c (valueOf p (s .0)) (inr (s .1 .0)) (s .2) (omega arith) h))
+
   -- the root's own value, which `valueOf` does not tell, plays no part below it
   descend-root : (b : ℕ) (bs : Key) (v w : Option ℕ) (f : Forest) → descend (b ∷ bs) (v, f) ≡ descend (b ∷ bs) (w, f)
   unfolding descend
@@ -141,6 +187,14 @@ module _ (p : Pool) (K : (c : ℕ) → Node p c → Children p c) where
 pub map-forest : (p : Pool) → poolMap p ≡ listForest (poolForest p)
 unfolding poolMap listTree
 map-forest p = refl
+
+map-tree-list : (p : Pool) → poolMap p ≡ listTree (none, poolForest p)
+unfolding poolMap
+map-tree-list p = refl
+
+listTree-forest : (f : Forest) → listTree (none, f) ≡ listForest f
+unfolding listTree
+listTree-forest f = refl
 
 -- ---- the forest is a trie's
 module _ (p : Pool) (s : Sound p) where
@@ -349,3 +403,24 @@ module _ (p : Pool) (s : Sound p) where
 
   pub count-forest : size (poolForest p) ≡ usedCount p
   count-forest = sym (length-prefixes (poolForest p) forest-orderly) ∙ ap (λ (m : Map). length (prefixes m)) (sym (map-forest p)) ∙ count-prefixes
+
+  -- ---- the prefixes that a key misses
+  grow-missing : (b : ℕ) (bs : Key) → missing (b ∷ bs) (poolMap p) ≡ freshNodes (b ∷ bs) (none, poolForest p)
+  unfolding grow
+  grow-missing b bs =
+      let F = poolForest p in
+      let k : Key = b ∷ bs in
+      let grown : insert k 0 (poolMap p) ≡ listForest (grow k 0 (none, F) .1) =
+      ap (insert k 0) (map-tree-list p) ∙ sym (listTree-grow k 0 (none, F) forest-orderly) ∙ listTree-forest (grow k 0 (none, F) .1) in
+      let after : length (prefixes (insert k 0 (poolMap p))) ≡ size (grow k 0 (none, F) .1) =
+      ap (λ (m : Map). length (prefixes m)) grown ∙ length-prefixes (grow k 0 (none, F) .1) (grow-orderly k 0 (none, F) forest-orderly) in
+      omega (arith, after, size-grow k 0 (none, F) forest-orderly, prefixes-insert k 0 (poolMap p) map-rising, count-prefixes, count-forest)
+
+  pub missing-rest : (there rest : Key) (c : ℕ) → Spells p 0 there c → Stops p c rest → 0 < length (there ++ rest) → missing (there ++ rest) (poolMap p) ≡ length rest
+  unfolding poolForest
+  missing-rest there rest c h stops long =
+      go (there ++ rest) refl long ∙ fresh-rest p (s .children) there rest (lastRecord p) 0 c none (inl refl) h (spells-most p there c h) stops
+    where
+      go : (k : Key) → k ≡ there ++ rest → 0 < length k → missing k (poolMap p) ≡ freshNodes k (none, poolForest p)
+      go [] e z = absurd (omega arith)
+      go (b ∷ bs) e z = grow-missing b bs

@@ -21,7 +21,7 @@ cast-needed : tie.Need-cast-needed
 cast-needed c = search needs
 
 sub-needed : tie.Need-sub-needed
-sub-needed c = depth-within _ _ (c .before .before .before .before .before .before .before .args .value) (c .before .before .before .before .before .before .before .pre) _ (c .before .before .reach-of .ensures)
+sub-needed c = omega (arith, depth-within _ _ (c .before .before .before .before .before .before .before .args .value) (c .before .before .before .before .before .before .before .pre) _ (c .before .before .reach-of .ensures))
 
 add-needed : tie.Need-add-needed
 add-needed c = search needs

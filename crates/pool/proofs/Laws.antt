@@ -6,3 +6,4 @@ pub mod Reset
 pub mod UseCount
 pub mod Push
 pub mod Meaning
+pub mod History

@@ -5,3 +5,4 @@ pub mod Entering
 pub mod Reset
 pub mod UseCount
 pub mod Push
+pub mod History

@@ -7,45 +7,47 @@
 --     missing-means-missing the labels that the walk misses are the prefixes that the map misses
 --     room-means-prefixes   there is room exactly if the map with the key has no more distinct nonempty prefixes than capacity
 --     present-accepted      a key that is present is accepted, also in a full pool
+--     reset-push            the first key fits exactly if it has no more bytes than capacity
 -- Assumes nothing.
-use Prim.Native.Nat.{ℕ, zero, suc, _+_, _-_, _≤_, _<_}
+use Prim.Native.Nat.{ℕ, _+_, _-_, _≤_, _<_}
 use mathlib.Core.Path.{_≡_, refl, sym, _∙_, ap, subst}
-use mathlib.Core.Bool.{Bool, true, false, cond}
-use mathlib.Core.List.{List, [], _∷_, _++_, append-assoc, append-nil, List·Memᴰ·not-nil}
+use mathlib.Core.Bool.{true, false, cond}
+use mathlib.Core.List.{[], _∷_, _++_, append-assoc, append-nil}
 use mathlib.Core.Logic.{_⊎_, inl, inr, ⊎-elim, _↔_}
-use mathlib.Core.Option.{Option, none, some}
+use mathlib.Core.Option.{none, some}
 use native.Mathlib.Omega.{arith}
 use native.Mathlib.Nat.{mod-eq-of-lt}
 use lib.ListN.{length, drop, length-append}
 use lib.Dec.{leb}
 use borrow.Author.Tests.{lt-leb, le-leb}
-use Rattle.keymap.specs.Limits.{byteLimit}
 use Rattle.keymap.specs.Label.{mark, labelIn}
 use Rattle.keymap.specs.Key.{Key, Bytes}
-use Rattle.keymap.specs.Map.{Entry, Map, insert, lookup}
+use Rattle.keymap.specs.Map.{Entry, insert, lookup}
 use Rattle.keymap.specs.Members as members
 use Rattle.keymap.specs.Prefixes.{prefixes, missing}
-use Rattle.keymap.proofs.Laws.Map.{decKey, insert-rising, insert-iff, map-members}
+use Rattle.keymap.specs.Refusals.{Refusal, refusalNumber}
+use Rattle.keymap.proofs.Laws.Map.{insert-rising, insert-iff, map-members}
 use Rattle.keymap.proofs.Laws.Members.{members-none}
 use Rattle.keymap.proofs.Laws.Prefixes.{prefixes-insert, missing-present}
 use Rattle.records.specs.Words.{Pool, recordWords, word, entry, label, value, valueOf, parent, lastRecord, usedCount, InUse, Node, nextRecord, capacity}
-use Rattle.records.specs.Sound.{Children, Sound}
-use Rattle.records.specs.Spelling.{ChildBy, Spells, Stops}
+use Rattle.records.specs.Sound.{Sound}
+use Rattle.records.specs.Spelling.{ChildBy, Spells}
 use Rattle.records.specs.Meaning.{poolMap, Holds}
-use Rattle.records.proofs.Laws.Distinct.{equal-or-not}
-use Rattle.records.proofs.Laws.Words.{count-last, next-last, next-unused, parent-node, in-use-taken, in-use-stays, next-in-use}
+use Rattle.records.proofs.Laws.Distinct.{equal-or-not, below-or-not}
+use Rattle.records.proofs.Laws.Words.{count-last, next-unused, parent-node, in-use-taken, in-use-stays, next-in-use}
 use Rattle.records.proofs.Laws.SoundTest.{sound-test}
-use Rattle.records.proofs.Laws.Spelling.{spells-child, spells-node, spells-one-path, spells-one-record}
+use Rattle.records.proofs.Laws.Spelling.{spells-child, spells-one-path, spells-one-record}
 use Rattle.records.proofs.Laws.Meaning.{map-rising, map-holds, count-prefixes, missing-rest}
 use Rattle.pool.specs.Answers.{accepted}
+use Rattle.pool.specs.Siblings.{slotOf}
 use Rattle.pool.specs.Path.{reachOf, missingLabels}
 use Rattle.pool.specs.Entering.{Inside, entered, enteredAll, lastEntered, marked, SoundBut, CanEnter, CanEnterAll}
-use Rattle.pool.specs.Reset.{resetSays, resetPool}
+use Rattle.pool.specs.Reset.{resetPool}
 use Rattle.pool.specs.Push.{insertedAt, inserted, hasRoom, pushSays, pushPool}
 use Rattle.pool.proofs.Laws.Path.{Split, reach-split, split-rest, split-missing}
-use Rattle.pool.proofs.Laws.Entering.{Entered, enter-words, enter-keeps, enter-node, can-enter, can-enter-rest, EnteredAll, entered-all, node-inside, marked-other, marked-entry, marked-value, marked-label, marked-last}
-use Rattle.pool.proofs.Laws.Reset.{reset-sound, reset-count}
-use Rattle.pool.proofs.Laws.Push.{Accepted, tested-done, push-tested, push-accepted, can-insert, end-in-use, insert-keeps, push-keeps}
+use Rattle.pool.proofs.Laws.Entering.{Entered, enter-words, can-enter, can-enter-rest, EnteredAll, entered-all, node-inside, marked-other, marked-entry, marked-value, marked-label, marked-last}
+use Rattle.pool.proofs.Laws.Reset.{length-reset, reset-sound, reset-count}
+use Rattle.pool.proofs.Laws.Push.{tested-full, tested-done, push-tested, push-accepted, can-insert, end-in-use, insert-keeps}
 
 -- ---- a record entered
 module _ (p : Pool) (i b : ℕ) (can : CanEnter p i b) where
@@ -55,7 +57,7 @@ module _ (p : Pool) (i b : ℕ) (can : CanEnter p i b) where
   abbrev m : ℕ
   m = nextRecord p
 
-  A : Entered p q i b m _ _
+  A : Entered p q i b m (slotOf p i b .prev) (slotOf p i b .next)
   A = enter-words p i b can
 
   kept : (c l : ℕ) → InUse p c → (l ≡ 0) ⊎ ((l ≡ 1) ⊎ (l ≡ 4)) → word q c l ≡ word p c l
@@ -293,3 +295,26 @@ module _ (p : Pool) (key : Key) (s : Sound p) (nonempty : length key ≡ 0 → �
       let z = missing-present key w (poolMap p) (map-rising p s) e in
       let n = missing-means-missing in
       sym (tested-done p key nonempty (omega (arith, s .within, count-last p)) ∙ push-tested p key (s .rooted) (sound-test p s))
+
+-- ---- the first push
+reset-unspelled : (p : Pool) → recordWords ≤ length p → (k : Key) (c : ℕ) → Spells (resetPool p) 0 k c → length k ≡ 0
+reset-unspelled p h [] c s = refl
+reset-unspelled p h (b ∷ bs) c s = absurd (omega (arith, s .1 .0 .0, s .1 .0 .1, reset-count p h, count-last (resetPool p)))
+
+-- into a pool that was just reset a key fits exactly if it has no more bytes than capacity
+pub reset-push : (p : Pool) (key : Key) → recordWords ≤ length p → (length key ≡ 0 → ⊥)
+    → pushSays (resetPool p) key ≡ cond (leb (length key) (capacity p)) (0 ∷ []) (refusalNumber Refusal.NoRoom ∷ [])
+reset-push p key h nonempty =
+    let s = reset-sound p h in
+    let c = reach-split (resetPool p) (s .children) key in
+    let z = reset-unspelled p h (c .there) (reachOf (resetPool p) key .at) (c .spells) in
+    let len = length-reset p in
+    let missed : missingLabels (resetPool p) key ≡ length key = omega (arith, split-missing (resetPool p) key c, ap length (c .whole), length-append (c .there) (c .rest)) in
+    ⊎-elim
+    (λ (l : capacity p < length key).
+    sym (tested-full (resetPool p) key nonempty (omega arith) ∙ push-tested (resetPool p) key (s .rooted) (sound-test (resetPool p) s))
+    ∙ sym (rw (lt-leb (length key) (capacity p) l)))
+    (λ (l : length key ≤ capacity p).
+    sym (tested-done (resetPool p) key nonempty (omega (arith, reset-count p h)) ∙ push-tested (resetPool p) key (s .rooted) (sound-test (resetPool p) s))
+    ∙ sym (rw (le-leb (length key) (capacity p) l)))
+    (below-or-not (capacity p) (length key))

@@ -30,7 +30,7 @@ use Rattle.pool.specs.Path.{reachOf, missingLabels}
 use Rattle.pool.specs.Entering.{enteredAll, lastEntered, marked, Inside, CanEnterAll}
 use Rattle.pool.specs.Push.{insertedAt, inserted, hasRoom, testedSays, pushSays, pushPool, TestedPush}
 use Rattle.pool.proofs.Laws.Path.{Split, reach-split, split-rest, split-missing, split-within, bytes-right}
-use Rattle.pool.proofs.Laws.Entering.{sound-but, node-inside, EnteredAll, entered-all, mark-keeps}
+use Rattle.pool.proofs.Laws.Entering.{length-marked, sound-but, node-inside, EnteredAll, entered-all, mark-keeps}
 
 module _ (p : Pool) (key : Key) where
   pub tested-empty : length key ≡ 0 → refusalNumber Refusal.EmptyKey ∷ [] ≡ testedSays p key
@@ -117,6 +117,10 @@ module _ (p : Pool) (key : Key) (v : ℕ) (s : Sound p) (bytes : Bytes key) (non
   insert-keeps =
       mark-keeps (enteredAll p (r .at) (drop (r .depth) key)) (lastEntered p (r .at) (drop (r .depth) key)) v (all-entered .sound) end-in-use
 
+  length-inserted : length (inserted p key v) ≡ length p
+  unfolding inserted insertedAt
+  length-inserted = length-marked (enteredAll p (r .at) (drop (r .depth) key)) (lastEntered p (r .at) (drop (r .depth) key)) v ∙ all-entered .len
+
 -- ---- the promise of a push into a sound pool, where the walk came to r
 module _ (p : Pool) (key : Key) (v : ℕ) (s : Sound p) where
   pub tested-refused : (a : Pushed) → saidPushed a ≡ testedSays p key → accepted (saidPushed a) ≡ false → TestedPush p key v a p
@@ -173,3 +177,11 @@ push-keeps p key v bytes s = go (accepted (pushSays p key)) refl
     go : (t : Bool) → accepted (pushSays p key) ≡ t → Sound (cond t (inserted p key v) p)
     go true e = let a = push-accepted p key e in insert-keeps p key v s bytes (a .nonempty) (a .room)
     go false e = s
+
+pub length-push : (p : Pool) (key : Key) (v : ℕ) → Bytes key → length (pushPool p key v) ≡ length p
+unfolding pushPool
+length-push p key v bytes = go (accepted (pushSays p key)) refl
+  where
+    go : (t : Bool) → accepted (pushSays p key) ≡ t → length (cond t (inserted p key v) p) ≡ length p
+    go true e = let a = push-accepted p key e in length-inserted p key v (a .sound) bytes (a .nonempty) (a .room)
+    go false e = refl

@@ -4,7 +4,8 @@
 --     reset-sound                what it leaves of 5 words or more is sound
 -- Assumes nothing.
 use Prim.Native.Nat.{_≤_, _<_}
-use mathlib.Core.Path.{_≡_, sym, _∙_, subst}
+use mathlib.Core.Path.{_≡_, refl, sym, _∙_, subst}
+use mathlib.Core.Bool.{Bool, true, false, cond}
 use mathlib.Core.List.{[], _∷_}
 use native.Mathlib.Omega.{arith}
 use lib.ListN.{length}
@@ -13,6 +14,7 @@ use Rattle.keymap.specs.Refusals.{Refusal, refusalNumber}
 use Rattle.records.specs.Words.{Pool, recordWords, lastRecord, usedCount}
 use Rattle.records.specs.Sound.{Children, Sound}
 use Rattle.records.proofs.Laws.Words.{last-entry, count-last, node-within}
+use Rattle.pool.specs.Answers.{accepted}
 use Rattle.pool.specs.Entering.{filled}
 use Rattle.pool.specs.Reset.{resetSays, resetPool}
 use Rattle.pool.proofs.Laws.Entering.{length-filled, filled-entry, filled-value, filled-child, filled-sibling, filled-parent}
@@ -25,6 +27,14 @@ module _ (p : Pool) where
   pub reset-done : recordWords ≤ length p → (0 ∷ [] ≡ resetSays p) × (filled p 0 0 0 0 ≡ resetPool p)
   unfolding resetSays resetPool
   reset-done h = (simp (le-ltb _ _ h), simp (le-ltb _ _ h))
+
+  pub length-reset : length (resetPool p) ≡ length p
+  unfolding resetPool
+  length-reset = go (accepted (resetSays p))
+    where
+      go : (t : Bool) → length (cond t (filled p 0 0 0 0) p) ≡ length p
+      go true = length-filled p 0 0 0 0
+      go false = refl
 
   module _ (h : recordWords ≤ length p) where
     abbrev zeroed : Pool

@@ -19,7 +19,7 @@ use native.Mathlib.Numerals.{sub-one}
 use lib.ListN.{length}
 use lib.Dec.{eqb}
 use borrow.Author.Tests.{le-ltb, lt-ltb, eq-eqb, ne-eqb, eqb-true}
-use Rattle.records.specs.Words.{Pool, label, firstChild, nextSibling, parent, lastRecord, InUse, Node}
+use Rattle.records.specs.Words.{Pool, label, firstChild, nextSibling, lastRecord, Node}
 use Rattle.records.specs.Sound.{In, Chain, LabelsRise, Children}
 use Rattle.records.specs.Spelling.{ChildBy}
 use Rattle.records.proofs.Laws.Distinct.{equal-or-not, below-or-not}

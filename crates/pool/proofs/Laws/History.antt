@@ -1,0 +1,112 @@
+-- Laws of histories. Each call on a sound pool answers what the map tells, leaves the map that the map tells, and leaves a sound pool of the same length; so do calls in turn.
+--
+--     call-says, call-map, call-sound, call-length    one call
+--     run-says, run-map, run-sound                    any calls on a sound pool, also one that was not reset here
+--     reset-run                                       any calls after an accepted reset: the pool is sound, holds the map of the keys accepted since the last reset,
+--                                                     and every answer is told by that map and the capacity
+--     reset-run-count                                 and its use count is the number of that map's distinct nonempty prefixes
+-- Assumes nothing.
+use Prim.Native.Nat.{ℕ, _≤_}
+use mathlib.Core.Path.{_≡_, refl, sym, _∙_, ap}
+use mathlib.Core.Bool.{Bool, true, false, cond}
+use mathlib.Core.List.{List, [], _∷_}
+use lib.ListN.{length}
+use lib.Dec.{leb, eqb}
+use borrow.Author.Tests.{eqb-false}
+use Rattle.keymap.specs.Key.{Key, Bytes}
+use Rattle.keymap.specs.Map.{Map, insert}
+use Rattle.keymap.specs.Prefixes.{prefixes}
+use Rattle.keymap.specs.Refusals.{Refusal, refusalNumber}
+use Rattle.records.specs.Words.{Pool, recordWords, usedCount, capacity}
+use Rattle.records.specs.Sound.{Sound}
+use Rattle.records.specs.Meaning.{poolMap}
+use Rattle.records.proofs.Laws.SoundTest.{sound-test}
+use Rattle.records.proofs.Laws.Meaning.{count-prefixes}
+use Rattle.pool.specs.Answers.{accepted}
+use Rattle.pool.specs.Reset.{resetPool}
+use Rattle.pool.specs.Push.{hasRoom, testedSays, pushSays, pushPool}
+use Rattle.pool.specs.History.{Call, Lent, AllLent, callSays, callPool, runSays, runPool, mapSays, mapAfter, mapRunSays, mapRun}
+use Rattle.pool.proofs.Laws.Reset.{reset-done, reset-sound, length-reset}
+use Rattle.pool.proofs.Laws.UseCount.{use-count-sound}
+use Rattle.pool.proofs.Laws.Push.{push-tested, push-keeps, length-push}
+use Rattle.pool.proofs.Laws.Meaning.{reset-means-empty, push-means-insert, push-means-same, room-means-prefixes}
+
+module _ (p : Pool) (s : Sound p) where
+  push-says : (k : Key) (v : ℕ) → pushSays p k ≡ mapSays (capacity p) (poolMap p) (Call.push k v)
+  unfolding testedSays
+  push-says k v = sym (push-tested p k (s .rooted) (sound-test p s)) ∙ go (eqb (length k) 0) refl
+    where
+      go : (t : Bool) → eqb (length k) 0 ≡ t
+          → cond t (refusalNumber Refusal.EmptyKey ∷ []) (cond (hasRoom p k) (0 ∷ []) (refusalNumber Refusal.NoRoom ∷ []))
+          ≡ cond t (refusalNumber Refusal.EmptyKey ∷ []) (cond (leb (length (prefixes (insert k v (poolMap p)))) (capacity p)) (0 ∷ []) (refusalNumber Refusal.NoRoom ∷ []))
+      go true e = refl
+      go false e = ap (λ (b : Bool). cond b (0 ∷ []) (refusalNumber Refusal.NoRoom ∷ [])) (room-means-prefixes p k s (eqb-false (length k) 0 e) v)
+
+  pub call-says : (c : Call) → callSays p c ≡ mapSays (capacity p) (poolMap p) c
+  call-says Call.reset = sym (reset-done p (s .rooted) .0)
+  call-says (Call.push k v) = push-says k v
+  call-says Call.useCount = sym (use-count-sound p (s .rooted) (sound-test p s)) ∙ ap (λ (n : ℕ). 0 ∷ n ∷ []) (sym (count-prefixes p s))
+
+  push-map : (k : Key) (v : ℕ) → Bytes k → poolMap (pushPool p k v) ≡ mapAfter (capacity p) (poolMap p) (Call.push k v)
+  push-map k v b = go (accepted (pushSays p k)) refl ∙ ap (λ (a : List ℕ). cond (accepted a) (insert k v (poolMap p)) (poolMap p)) (push-says k v)
+    where
+      go : (t : Bool) → accepted (pushSays p k) ≡ t → poolMap (pushPool p k v) ≡ cond (accepted (pushSays p k)) (insert k v (poolMap p)) (poolMap p)
+      go true e = push-means-insert p k v b e ∙ rw e refl
+      go false e = push-means-same p k v e ∙ rw e refl
+
+  pub call-map : (c : Call) → Lent c → poolMap (callPool p c) ≡ mapAfter (capacity p) (poolMap p) c
+  call-map Call.reset l = reset-means-empty p (s .rooted)
+  call-map (Call.push k v) l = push-map k v l
+  call-map Call.useCount l = refl
+
+  pub call-sound : (c : Call) → Lent c → Sound (callPool p c)
+  call-sound Call.reset l = reset-sound p (s .rooted)
+  call-sound (Call.push k v) l = push-keeps p k v l s
+  call-sound Call.useCount l = s
+
+  pub call-length : (c : Call) → Lent c → length (callPool p c) ≡ length p
+  call-length Call.reset l = length-reset p
+  call-length (Call.push k v) l = length-push p k v l
+  call-length Call.useCount l = refl
+
+  pub call-capacity : (c : Call) → Lent c → capacity (callPool p c) ≡ capacity p
+  call-capacity c l = rw (call-length c l)
+
+pub run-sound : (cs : List Call) (p : Pool) → Sound p → AllLent cs → Sound (runPool p cs)
+unfolding runPool
+run-sound [] p s l = s
+run-sound (c ∷ cs) p s l = run-sound cs (callPool p c) (call-sound p s c (l .0)) (l .1)
+
+pub run-says : (cs : List Call) (p : Pool) → Sound p → AllLent cs → runSays p cs ≡ mapRunSays (capacity p) (poolMap p) cs
+unfolding runSays mapRunSays
+run-says [] p s l = refl
+run-says (c ∷ cs) p s l =
+    let first = call-says p s c in
+    let rest = run-says cs (callPool p c) (call-sound p s c (l .0)) (l .1) in
+    let m = call-map p s c (l .0) in
+    let n = call-capacity p s c (l .0) in
+    λ i. first i ∷ (rest ∙ (λ j. mapRunSays (n j) (m j) cs)) i
+
+pub run-map : (cs : List Call) (p : Pool) → Sound p → AllLent cs → poolMap (runPool p cs) ≡ mapRun (capacity p) (poolMap p) cs
+unfolding runPool mapRun
+run-map [] p s l = refl
+run-map (c ∷ cs) p s l =
+    let m = call-map p s c (l .0) in
+    let n = call-capacity p s c (l .0) in
+    run-map cs (callPool p c) (call-sound p s c (l .0)) (l .1) ∙ (λ j. mapRun (n j) (m j) cs)
+
+module _ (p : Pool) (h : recordWords ≤ length p) (cs : List Call) (lent : AllLent cs) where
+  pub reset-run-sound : Sound (runPool (resetPool p) cs)
+  reset-run-sound = run-sound cs (resetPool p) (reset-sound p h) lent
+
+  same : capacity (resetPool p) ≡ capacity p
+  same = rw (length-reset p)
+
+  pub reset-run-says : runSays (resetPool p) cs ≡ mapRunSays (capacity p) [] cs
+  reset-run-says = let e = same in let m = reset-means-empty p h in run-says cs (resetPool p) (reset-sound p h) lent ∙ (λ i. mapRunSays (e i) (m i) cs)
+
+  pub reset-run-map : poolMap (runPool (resetPool p) cs) ≡ mapRun (capacity p) [] cs
+  reset-run-map = let e = same in let m = reset-means-empty p h in run-map cs (resetPool p) (reset-sound p h) lent ∙ (λ i. mapRun (e i) (m i) cs)
+
+  pub reset-run-count : usedCount (runPool (resetPool p) cs) ≡ length (prefixes (mapRun (capacity p) [] cs))
+  reset-run-count = sym (count-prefixes (runPool (resetPool p) cs) reset-run-sound) ∙ ap (λ (m : Map). length (prefixes m)) reset-run-map

@@ -8,3 +8,9 @@ pub mod Passed
 pub mod AcceptAnswer
 pub mod Meaning
 pub mod Walk
+pub mod Buffers
+pub mod LevelOrder
+pub mod Spelling
+pub mod Turns
+pub mod Queueing
+pub mod Build

@@ -7,3 +7,15 @@ pub enum Checked {
     // None has: refusal 6.
     NotAnImage,
 }
+
+// Of build. A refusal writes nothing.
+pub enum Built {
+    // The image is written, with so many nodes besides the root.
+    Nodes(u32),
+    // The pool has fewer than 5 words.
+    PoolTooSmall,
+    // The pool is not sound.
+    NotAPool,
+    // A buffer is shorter than needed.
+    OutTooSmall,
+}

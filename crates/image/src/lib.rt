@@ -1,12 +1,23 @@
 // The image of a map in lent slices: label entries, values, and the words of the level-order bits.
 mod acceptance;
 pub mod answers;
+mod breadth_first;
+mod buffers;
+mod entries;
 
+use crate::answers::Built;
 use crate::answers::Checked;
+use crate::breadth_first::write_levels;
+use crate::buffers::buffers_fit;
+use crate::entries::write_entries;
+use records::soundness::is_sound;
+use records::words::RECORD_WORDS;
+use records::words::used_count;
 pub use acceptance::is_image;
 ghost use mathlib.Core.Path.{_≡_};
 ghost use Rattle.image.specs.Meaning.{lent};
 ghost use Rattle.image.specs.AcceptAnswer.{saidChecked, acceptSays};
+ghost use Rattle.image.specs.Build.{saidBuilt, buildSays, buildLabels, buildValues, buildWords, buildScratch};
 
 // Refuses slices that are no map's image. It only reads.
 pub fn accept(labels: &[u16], values: &[u32], words: &[u64]) -> Checked
@@ -16,4 +27,33 @@ pub fn accept(labels: &[u16], values: &[u32], words: &[u64]) -> Checked
         return Checked::NotAnImage;
     }
     Checked::Accepted
+}
+
+// Writes the image of the pool's map, and the level order of its records to the scratch slice. The pool is only read, longer buffers keep their tails.
+pub fn build(
+    pool: &[u32],
+    labels: &mut [u16],
+    values: &mut [u32],
+    words: &mut [u64],
+    scratch: &mut [u32],
+) -> Built
+    ensures answer { λ r. ⌜ saidBuilt r ≡ buildSays (now (pool .entry)) (now (labels .entry)) (now (values .entry)) (now (words .entry)) (now (scratch .entry)) ⌝ }
+    ensures labels { λ _. ⌜ now (labels .exit) ≡ buildLabels (now (pool .entry)) (now (labels .entry)) (now (values .entry)) (now (words .entry)) (now (scratch .entry)) ⌝ }
+    ensures values { λ _. ⌜ now (values .exit) ≡ buildValues (now (pool .entry)) (now (labels .entry)) (now (values .entry)) (now (words .entry)) (now (scratch .entry)) ⌝ }
+    ensures words { λ _. ⌜ now (words .exit) ≡ buildWords (now (pool .entry)) (now (labels .entry)) (now (values .entry)) (now (words .entry)) (now (scratch .entry)) ⌝ }
+    ensures scratch { λ _. ⌜ now (scratch .exit) ≡ buildScratch (now (pool .entry)) (now (labels .entry)) (now (values .entry)) (now (words .entry)) (now (scratch .entry)) ⌝ }
+{
+    if pool.len() < RECORD_WORDS {
+        return Built::PoolTooSmall;
+    }
+    if !is_sound(pool) {
+        return Built::NotAPool;
+    }
+    let n = used_count(pool);
+    if !buffers_fit(n, labels.len(), values.len(), words.len(), scratch.len()) {
+        return Built::OutTooSmall;
+    }
+    write_levels(pool, n, words, scratch);
+    write_entries(pool, scratch, n, labels, values);
+    Built::Nodes(n)
 }

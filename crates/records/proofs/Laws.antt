@@ -4,3 +4,4 @@ pub mod Sound
 pub mod SoundTest
 pub mod Spelling
 pub mod Meaning
+pub mod Reached

@@ -1,7 +1,8 @@
--- Of each public call any two outcomes that its contract allows are equal: it only reads, and its answer is given by an equation.
+-- Of each public call any two outcomes that its contract allows are equal: its answer, and each buffer that it writes, is given by an equation.
 -- Stated over the contract's own claim, so that a clause which is weakened or left out breaks it. Assumes nothing.
 use mathlib.Core.Path.{_≡_, sym, _∙_}
 use contract.Lifetimes.{Lfts}
+use denote.Ref.{now}
 use denote.Triple.Clauses.{AtExit}
 use borrow.Fn.Kinds.{endedOf}
 use borrow.Fn.World.{ArgsD, ResD}
@@ -11,6 +12,10 @@ use Rattle.image.proofs.accept.Reads as accept-reads
 use Rattle.image.proofs.acceptance.is_image
 use Rattle.image.proofs.acceptance.is_image.Kinds as is-image-kinds
 use Rattle.image.proofs.acceptance.is_image.Reads as is-image-reads
+use Rattle.image.proofs.build
+use Rattle.image.proofs.build.Kinds as build-kinds
+use Rattle.image.proofs.build.Reads as build-reads
+use Rattle.image.proofs.Laws.Build.{said-built-one}
 use Rattle.image.proofs.Laws.AcceptAnswer.{said-checked-one}
 
 module _ (κs : Lfts 3) where
@@ -21,3 +26,15 @@ module _ (κs : Lfts 3) where
   pub is-image-determined : (a : ArgsD is_image.signature κs) (r₁ r₂ : ResD is_image.signature κs) (s₁ s₂ : AtExit (endedOf 3 is-image-kinds.ps is-image-kinds.r) κs)
       → is-image-reads.Post κs a r₁ s₁ → is-image-reads.Post κs a r₂ s₂ → r₁ ≡ r₂
   is-image-determined a r₁ r₂ s₁ s₂ p q = p ∙ sym q
+
+-- the answer, then labels, values, words and scratch at exit
+pub build-determined : (κs : Lfts 5) (a : ArgsD build.signature κs) (r₁ r₂ : ResD build.signature κs) (s₁ s₂ : AtExit (endedOf 5 build-kinds.ps build-kinds.r) κs)
+    → build-reads.Post κs a r₁ s₁ → build-reads.Post κs a r₂ s₂
+    → (r₁ ≡ r₂) × (now (s₁ .1 .0) ≡ now (s₂ .1 .0)) × (now (s₁ .1 .1 .0) ≡ now (s₂ .1 .1 .0)) × (now (s₁ .1 .1 .1 .0) ≡ now (s₂ .1 .1 .1 .0)) × (now (s₁ .1 .1 .1 .1 .0) ≡ now (s₂ .1 .1 .1 .1 .0))
+build-determined κs a r₁ r₂ s₁ s₂ p q = (
+  said-built-one r₁ r₂ (p .0 ∙ sym (q .0)),
+  p .1 .0 ∙ sym (q .1 .0),
+  p .1 .1 .0 ∙ sym (q .1 .1 .0),
+  p .1 .1 .1 .0 ∙ sym (q .1 .1 .1 .0),
+  p .1 .1 .1 .1 ∙ sym (q .1 .1 .1 .1),
+)

@@ -14,3 +14,4 @@ pub mod Spelling
 pub mod Turns
 pub mod Queueing
 pub mod Build
+pub mod PoolImage

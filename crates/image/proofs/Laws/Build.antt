@@ -5,7 +5,8 @@
 --     says-small, ..       what build says in each case
 --     build-refused        a refusal leaves all four
 --     build-done           what else is left of them
---     tell-levels, told-levels    the entries are those of the level order
+--     tell-levels, told-labels, told-values    the entries are those of the level order
+--     said-built-one       equal numbers mean equal answers
 -- Assumes nothing.
 use Prim.Native.Nat.{ℕ, _+_, _^_, _≤_, _<_}
 use mathlib.Core.Path.{_≡_, refl, sym, ap, _∙_, subst}
@@ -120,3 +121,20 @@ module _ (p : Pool) (s : Sound p) (n : ℕ) (count : n ≡ usedCount p) (queue q
   pub told-values : (vs : List ℕ) → over (map (value p) (take n queue)) vs ≡ over (poolValues p) vs
   unfolding poolValues
   told-values vs = ap (λ (cs : List ℕ). over (map (value p) cs) vs) told
+
+-- ---- the answer
+
+heardBuilt : List ℕ → Built
+heardBuilt [] = Built.OutTooSmall
+heardBuilt (k ∷ []) = cond (eqb k 1) Built.PoolTooSmall (cond (eqb k 2) Built.NotAPool Built.OutTooSmall)
+heardBuilt (k ∷ n ∷ ns) = Built.Nodes n
+
+built-heard : (r : Built) → heardBuilt (saidBuilt r) ≡ r
+unfolding heardBuilt
+built-heard (Built.Nodes n) = refl
+built-heard Built.PoolTooSmall = refl
+built-heard Built.NotAPool = refl
+built-heard Built.OutTooSmall = refl
+
+pub said-built-one : (r s : Built) → saidBuilt r ≡ saidBuilt s → r ≡ s
+said-built-one r s e = sym (built-heard r) ∙ ap heardBuilt e ∙ built-heard s

@@ -1,7 +1,8 @@
 -- The queue over a sound pool's records. A record stands in one chain only, that of its parent, so what is taken and what waits names no record twice; every
 -- record is reached from the root, so none is left out. Hence the level order Q has each record in use once, and Q = the children of the root and of each of Q in turn.
 --
---     child-chain       the children of a record are its chain
+--     child-records, child-chain    the children of a record are its chain
+--     child-only        and have it for their parent
 --     level-count       the level order is as long as records are in use
 --     level-law         it is the children of the root and of each of it in turn
 --     level-all         every record in use is in it
@@ -99,7 +100,7 @@ getD-in (x ∷ xs) zero l = inl refl
 getD-in (x ∷ xs) (suc i) l = inr (getD-in xs i (omega arith))
 
 module _ (p : Pool) (s : Sound p) where
-  child-records : (c : ℕ) (k : Children p c) → childRecords p c ≡ k .kids
+  pub child-records : (c : ℕ) (k : Children p c) → childRecords p c ≡ k .kids
   unfolding childRecords
   child-records c k =
       siblings-chain p (k .kids) (usedCount p) (firstChild p c) (k .chain) (used-at-most p (k .kids) (rises-distinct p 0 (k .kids) (k .rising)) (λ x m. k .only x m .0))

@@ -1,6 +1,7 @@
 -- Laws of the map that a sound pool holds. A chain of siblings is a list of records, so what hangs below a record is the list of its children with what hangs below each;
 -- going down that forest by bytes is going down the records by labels. No way is longer than the records are many, so the levels never run out.
 --
+--     below-children      what hangs below a record is its children, each with what hangs below it
 --     value-spelled, value-unspelled    the forest's value at a path, by the record that it spells
 --     forest-orderly      the forest is a trie's
 --     map-rising, map-catalogue    the map rises, and is one that a pool can hold
@@ -50,7 +51,7 @@ use Rattle.records.proofs.Laws.Spelling.{spells-join, spells-cut, spell
 
 -- ---- a chain of siblings
 -- these records as siblings
-abbrev forestOf : Pool → (ℕ → Forest) → List ℕ → Forest
+abbrev pub forestOf : Pool → (ℕ → Forest) → List ℕ → Forest
 forestOf p below [] = empty
 forestOf p below (x ∷ xs) = node (label p x) (valueOf p x) (below x) (forestOf p below xs)
 
@@ -104,7 +105,7 @@ module _ (p : Pool) (below : ℕ → Forest) where
 
 -- ---- going down
 module _ (p : Pool) (K : (c : ℕ) → Node p c → Children p c) where
-  below-children : (f i : ℕ) (n : Node p i) → forestBelow (suc f) p i ≡ forestOf p (forestBelow f p) (K i n .kids)
+  pub below-children : (f i : ℕ) (n : Node p i) → forestBelow (suc f) p i ≡ forestOf p (forestBelow f p) (K i n .kids)
   unfolding forestBelow
   below-children f i n = siblings-chain p (forestBelow f p) (lastRecord p) (firstChild p i) (K i n .kids) (K i n .chain) (children-most p i (K i n))
 

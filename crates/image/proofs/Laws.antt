@@ -15,3 +15,4 @@ pub mod Turns
 pub mod Queueing
 pub mod Build
 pub mod PoolImage
+pub mod History

@@ -32,12 +32,14 @@ saidBuilt Built.OutTooSmall = refusalNumber Refusal.OutTooSmall ∷ []
 unfoldable pub buffersFit : (n labels values words scratch : ℕ) → Bool
 buffersFit n labels values words scratch = leb n labels && (leb n values && (leb (wordsFor (bitsFor n)) words && leb n scratch))
 
+-- n nodes where the buffers fit, and OutTooSmall where they do not
+unfoldable pub fitSays : (n labels values words scratch : ℕ) → List ℕ
+fitSays n labels values words scratch = cond (buffersFit n labels values words scratch) (0 ∷ n ∷ []) (refusalNumber Refusal.OutTooSmall ∷ [])
+
 unfoldable pub buildSays : Pool → (labels values words scratch : List ℕ) → List ℕ
 buildSays p ls vs ws qs =
     cond (ltb (length p) recordWords) (refusalNumber Refusal.PoolTooSmall ∷ [])
-    (cond (soundTest p)
-    (cond (buffersFit (usedCount p) (length ls) (length vs) (length ws) (length qs)) (0 ∷ usedCount p ∷ []) (refusalNumber Refusal.OutTooSmall ∷ []))
-    (refusalNumber Refusal.NotAPool ∷ []))
+    (cond (soundTest p) (fitSays (usedCount p) (length ls) (length vs) (length ws) (length qs)) (refusalNumber Refusal.NotAPool ∷ []))
 
 unfoldable pub buildLabels : Pool → (labels values words scratch : List ℕ) → List ℕ
 buildLabels p ls vs ws qs = cond (accepted (buildSays p ls vs ws qs)) (over (poolLabels p) ls) ls

@@ -5,3 +5,4 @@ pub mod AcceptAnswer
 pub mod Buffers
 pub mod LevelOrder
 pub mod Build
+pub mod History

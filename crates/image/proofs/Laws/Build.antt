@@ -5,6 +5,7 @@
 --     says-small, ..       what build says in each case
 --     build-refused        a refusal leaves all four
 --     build-done           what else is left of them
+--     says-sound           what build says of a sound pool, by the lengths alone
 --     tell-levels, told-labels, told-values    the entries are those of the level order
 --     said-built-one       equal numbers mean equal answers
 -- Assumes nothing.
@@ -22,11 +23,12 @@ use Rattle.keymap.specs.Image.{bitsFor}
 use Rattle.records.specs.Words.{Pool, recordWords, entry, value, usedCount}
 use Rattle.records.specs.Sound.{Sound}
 use Rattle.records.specs.SoundTest.{soundTest}
+use Rattle.records.proofs.Laws.SoundTest.{sound-test}
 use Rattle.pool.specs.Answers.{accepted}
 use Rattle.image.specs.declared.answers.Built.{Built}
 use Rattle.image.specs.Buffers.{over}
 use Rattle.image.specs.LevelOrder.{levelRecords, poolLabels, poolValues, poolWords}
-use Rattle.image.specs.Build.{saidBuilt, buffersFit, buildSays, buildLabels, buildValues, buildWords, buildScratch, CanTell}
+use Rattle.image.specs.Build.{saidBuilt, buffersFit, fitSays, buildSays, buildLabels, buildValues, buildWords, buildScratch, CanTell}
 use Rattle.image.proofs.Laws.Buffers.{length-over, getD-over, take-over}
 use Rattle.image.proofs.Laws.LevelOrder.{level-count, level-used, getD-in}
 
@@ -59,6 +61,12 @@ module _ (n labels values words scratch : ℕ) where
       first true t q = (refl, q)
       first false t q = let z : _≡_ {A = ℕ} 0 1 = cc in absurd (omega arith)
 
+left-as-was : {t : Bool} (xs ys : List ℕ) → t ≡ false → ys ≡ cond t xs ys
+left-as-was xs ys e = ap (λ (b : Bool). cond b xs ys) (sym e)
+
+left-written : {t : Bool} (xs ys : List ℕ) → t ≡ true → xs ≡ cond t xs ys
+left-written xs ys e = ap (λ (b : Bool). cond b xs ys) (sym e)
+
 module _ (p : Pool) (ls vs ws qs : List ℕ) where
   pub says-small : length p < recordWords → refusalNumber Refusal.PoolTooSmall ∷ [] ≡ buildSays p ls vs ws qs
   unfolding buildSays
@@ -71,30 +79,35 @@ module _ (p : Pool) (ls vs ws qs : List ℕ) where
   -- n is the count of the records in use
   module _ (n : ℕ) (count : n ≡ usedCount p) (long : recordWords ≤ length p) (sound : soundTest p ≡ true) where
     pub says-short : buffersFit n (length ls) (length vs) (length ws) (length qs) ≡ false → refusalNumber Refusal.OutTooSmall ∷ [] ≡ buildSays p ls vs ws qs
-    unfolding buildSays
+    unfolding buildSays fitSays
     says-short f = simp (le-ltb _ _ long, sound, ← count, f)
 
     pub says-done : buffersFit n (length ls) (length vs) (length ws) (length qs) ≡ true → 0 ∷ n ∷ [] ≡ buildSays p ls vs ws qs
-    unfolding buildSays
+    unfolding buildSays fitSays
     says-done f = simp (le-ltb _ _ long, sound, ← count, f)
 
   -- an answer with what it leaves of the buffers
   abbrev Leaves : Built → (labels values words scratch : List ℕ) → Type 0
-  Leaves r ls′ vs′ ws′ qs′ =
+  Leaves r labels values words scratch =
       (saidBuilt r ≡ buildSays p ls vs ws qs)
-      × ((ls′ ≡ buildLabels p ls vs ws qs) × ((vs′ ≡ buildValues p ls vs ws qs) × ((ws′ ≡ buildWords p ls vs ws qs) × (qs′ ≡ buildScratch p ls vs ws qs))))
+      × ((labels ≡ buildLabels p ls vs ws qs) × ((values ≡ buildValues p ls vs ws qs) × ((words ≡ buildWords p ls vs ws qs) × (scratch ≡ buildScratch p ls vs ws qs))))
 
   pub build-refused : (r : Built) → saidBuilt r ≡ buildSays p ls vs ws qs → accepted (saidBuilt r) ≡ false → Leaves r ls vs ws qs
   unfolding buildLabels buildValues buildWords buildScratch
   build-refused r e f =
       let a : accepted (buildSays p ls vs ws qs) ≡ false = ap accepted (sym e) ∙ f in
-      (e, (rw a refl, (rw a refl, (rw a refl, rw a refl))))
+      (e, (left-as-was (over (poolLabels p) ls) ls a, (left-as-was (over (poolValues p) vs) vs a, (left-as-was (over (poolWords p) ws) ws a, left-as-was (over (levelRecords p) qs) qs a))))
 
   pub build-done : (r : Built) → saidBuilt r ≡ buildSays p ls vs ws qs → accepted (saidBuilt r) ≡ true → Leaves r (over (poolLabels p) ls) (over (poolValues p) vs) (over (poolWords p) ws) (over (levelRecords p) qs)
   unfolding buildLabels buildValues buildWords buildScratch
   build-done r e f =
       let a : accepted (buildSays p ls vs ws qs) ≡ true = ap accepted (sym e) ∙ f in
-      (e, (rw a refl, (rw a refl, (rw a refl, rw a refl))))
+      (e, (left-written (over (poolLabels p) ls) ls a, (left-written (over (poolValues p) vs) vs a, (left-written (over (poolWords p) ws) ws a, left-written (over (levelRecords p) qs) qs a))))
+
+  -- what it says of a sound pool is settled by the lengths
+  pub says-sound : Sound p → buildSays p ls vs ws qs ≡ fitSays (usedCount p) (length ls) (length vs) (length ws) (length qs)
+  unfolding buildSays
+  says-sound s = simp (le-ltb _ _ (s .rooted), sound-test p s)
 
 -- ---- the entries
 

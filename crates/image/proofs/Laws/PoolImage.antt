@@ -6,10 +6,12 @@
 --     rows-level       the rows of the level order are the forest's
 --     image-pool       labels, values and words are those of the image of the pool's map
 --     image-same       two sound pools that hold the same map give the same image
+--     build-means-image    so an accepted build of a sound pool writes the image of its map over the front of its buffers
 -- Assumes nothing.
 use Prim.Native.Nat.{ℕ, zero, suc, _+_, _*_, _≤_, _<_}
 use mathlib.Core.Path.{_≡_, refl, sym, ap, ap₂, _∙_, subst}
 use mathlib.Core.Logic.{inl, inr}
+use mathlib.Core.Bool.{true}
 use mathlib.Core.List.{List, [], _∷_, _++_, map, map-map}
 use mathlib.Core.Option.{Option}
 use native.Mathlib.Omega.{arith}
@@ -29,6 +31,9 @@ use Rattle.records.specs.Spelling.{Spells}
 use Rattle.records.specs.Meaning.{forestBelow, poolForest, poolMap}
 use Rattle.records.proofs.Laws.Spelling.{spells-child, spells-most}
 use Rattle.records.proofs.Laws.Meaning.{forestOf, below-children, forest-orderly, map-forest, count-forest}
+use Rattle.pool.specs.Answers.{accepted}
+use Rattle.image.specs.Buffers.{over}
+use Rattle.image.specs.Build.{buildSays, buildLabels, buildValues, buildWords}
 use Rattle.image.specs.LevelOrder.{childRecords, takenFrom, levelRecords, recordDegree, poolLabels, poolValues, poolWords}
 use Rattle.image.proofs.Laws.LevelOrder.{child-records, child-only, level-used}
 
@@ -137,3 +142,19 @@ pub image-same : (p q : Pool) → Sound p → Sound q → poolMap p ≡ poolMap 
 image-same p q s t e =
     let h = image-pool p s ∙ ap image e ∙ sym (image-pool q t) in
     (ap (λ (i : Image). i .labels) h, ap (λ (i : Image). i .values) h, ap (λ (i : Image). i .words) h)
+
+-- the image of a map over the front of the buffers
+pub record Shows (i : Image) (p : Pool) (ls vs ws qs : List ℕ) : Type 0 where
+  pub labels-show : buildLabels p ls vs ws qs ≡ over (i .labels) ls
+  pub values-show : buildValues p ls vs ws qs ≡ over (i .values) vs
+  pub words-show : buildWords p ls vs ws qs ≡ over (i .words) ws
+
+pub build-means-image : (p : Pool) → Sound p → (ls vs ws qs : List ℕ) → accepted (buildSays p ls vs ws qs) ≡ true → Shows (image (poolMap p)) p ls vs ws qs
+unfolding buildLabels buildValues buildWords
+build-means-image p s ls vs ws qs e =
+    let h = image-pool p s in
+    record {
+      labels-show = rw e (ap (λ (i : Image). over (i .labels) ls) h);
+      values-show = rw e (ap (λ (i : Image). over (i .values) vs) h);
+      words-show = rw e (ap (λ (i : Image). over (i .words) ws) h);
+    }

@@ -1,6 +1,7 @@
 pub mod Answers
 pub mod Siblings
 pub mod Path
+pub mod Writing
 pub mod Entering
 pub mod Reset
 pub mod UseCount

@@ -12,7 +12,8 @@ use Rattle.records.specs.SoundTest.{both, wordsFit, recordFits, isChild, chainR
 use Rattle.records.specs.Meaning.{siblingsFrom, forestBelow, poolForest, poolMap}
 use Rattle.pool.specs.Siblings.{slotFrom, slotOf, childAt}
 use Rattle.pool.specs.Path.{reachFrom, reachOf, missingLabels}
-use Rattle.pool.specs.Entering.{filled, linked, enteredAt, entered, enteredAll, lastEntered, marked}
+use Rattle.pool.specs.Writing.{filled, linked, marked}
+use Rattle.pool.specs.Entering.{enteredAt, entered, enteredAll, lastEntered}
 use Rattle.pool.specs.Reset.{resetSays, resetPool}
 use Rattle.pool.specs.UseCount.{useCountSays}
 use Rattle.pool.specs.Push.{insertedAt, inserted, hasRoom, testedSays, pushSays, pushPool}

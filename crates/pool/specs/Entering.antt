@@ -1,39 +1,23 @@
 -- Records that are entered: "gives missing labels records n+1, n+2 and so on in key order, linked among siblings in label order" (01).
 --
---     filled          a record with all five words written
---     linked          a record hooked in among siblings
 --     entered         one record more
 --     enteredAll      a record for each byte, each below the one before; lastEntered is the last
---     marked          a record given its mark and a value
 --     SoundBut        a pool that is sound but for a record that has neither value nor child yet
 --     CanEnter        what entering a record asks
 -- Assumes nothing.
-use Prim.Native.Nat.{ℕ, _+_, _*_, _≤_, _<_}
+use Prim.Native.Nat.{ℕ, _+_, _≤_, _<_}
 use mathlib.Core.Path.{_≡_}
-use mathlib.Core.Bool.{cond}
 use mathlib.Core.List.{[], _∷_}
 use lib.ListN.{length}
-use lib.Dec.{eqb}
 use Rattle.keymap.specs.Limits.{byteLimit}
 use Rattle.keymap.specs.Label.{mark}
 use Rattle.keymap.specs.Key.{Key, Bytes}
-use Rattle.records.specs.Words.{Pool, recordWords, put, entry, label, value, firstChild, nextSibling, parent, lastRecord, usedCount, InUse, Node, nextRecord, taken, capacity}
+use Rattle.records.specs.Words.{Pool, recordWords, entry, value, firstChild, nextSibling, parent, lastRecord, usedCount, InUse, Node, nextRecord, taken, capacity}
 use Rattle.records.specs.Sound.{Children}
 use Rattle.records.specs.Spelling.{Stops}
 use Rattle.pool.specs.declared.siblings.Slot.{Slot}
 use Rattle.pool.specs.Siblings.{slotOf}
-
--- all of record c lies in the pool
-abbrev pub Inside : Pool → ℕ → Type 0
-Inside p c = recordWords * c + 4 < length p
-
--- label b and no value, no child, next sibling x, parent i
-unfoldable pub filled : Pool → (c b x i : ℕ) → Pool
-filled p c b x i = put (put (put (put (put p c 0 b) c 1 0) c 2 0) c 3 x) c 4 i
-
--- m is the sibling after a or, where a is 0, the first child of i
-unfoldable pub linked : Pool → (i a m : ℕ) → Pool
-linked p i a m = cond (eqb a 0) (put p i 2 m) (put p a 3 m)
+use Rattle.pool.specs.Writing.{filled, linked}
 
 -- record m, with label b, put in at a slot of the children of i, and the root's words brought up to date
 unfoldable pub enteredAt : Pool → (i b m : ℕ) → Slot → Pool
@@ -49,10 +33,6 @@ enteredAll p i (b ∷ bs) = enteredAll (entered p i b) (nextRecord p) bs
 unfoldable pub lastEntered : Pool → ℕ → Key → ℕ
 lastEntered p i [] = i
 lastEntered p i (b ∷ bs) = lastEntered (entered p i b) (nextRecord p) bs
-
--- the label stays
-unfoldable pub marked : Pool → (c v : ℕ) → Pool
-marked p c v = put (put p c 0 (label p c + mark)) c 1 v
 
 -- as `Fits`, but that record e may lack a child where it has no value
 pub record FitsBut (p : Pool) (e c : ℕ) : Type 0 where

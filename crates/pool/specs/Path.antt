@@ -3,8 +3,7 @@
 --     reachOf         the record that is reached, and how many bytes led there
 --     missingLabels   how many of the key's prefixes are not yet present
 -- Assumes nothing.
-use Prim.Native.Nat.{ℕ, _+_, _-_, _<_}
-use mathlib.Core.Path.{_≡_}
+use Prim.Native.Nat.{ℕ, _+_, _-_}
 use mathlib.Core.Bool.{cond}
 use mathlib.Core.List.{[], _∷_}
 use lib.ListN.{length}

@@ -21,7 +21,8 @@ use Rattle.pool.specs.declared.answers.Pushed.{Pushed}
 use Rattle.pool.specs.declared.path.Reach.{Reach}
 use Rattle.pool.specs.Answers.{saidPushed, accepted}
 use Rattle.pool.specs.Path.{reachOf, missingLabels}
-use Rattle.pool.specs.Entering.{enteredAll, lastEntered, marked}
+use Rattle.pool.specs.Writing.{marked}
+use Rattle.pool.specs.Entering.{enteredAll, lastEntered}
 
 -- from the record on that the key reaches
 unfoldable pub insertedAt : Pool → Key → ℕ → Reach → Pool

@@ -8,7 +8,7 @@ use lib.Dec.{ltb}
 use Rattle.keymap.specs.Refusals.{Refusal, refusalNumber}
 use Rattle.records.specs.Words.{Pool, recordWords}
 use Rattle.pool.specs.Answers.{accepted}
-use Rattle.pool.specs.Entering.{filled}
+use Rattle.pool.specs.Writing.{filled}
 
 unfoldable pub resetSays : Pool → List ℕ
 resetSays p = cond (ltb (length p) recordWords) (refusalNumber Refusal.PoolTooSmall ∷ []) (0 ∷ [])

@@ -6,7 +6,7 @@ ghost use mathlib.Core.Path.{_≡_};
 ghost use Prim.Native.Nat.{_+_, _*_, _<_, _≤_};
 ghost use lib.ListN.{length};
 ghost use Rattle.records.specs.Words.{recordWords, put, taken};
-ghost use Rattle.pool.specs.Entering.{Inside, filled, linked, marked};
+ghost use Rattle.pool.specs.Writing.{Inside, filled, linked, marked};
 
 fn set_word(pool: &mut [u32], c: u32, k: u32, v: u32)
     requires { ⌜ recordWords * c + k < length (now pool) ⌝ }

@@ -1,7 +1,6 @@
 -- Laws of entering records. The words after one record is entered follow from the puts; with them the chain of its parent is the old one with the record put in by label,
 -- every other chain is as it was, and the record's own is empty. So the pool stays sound but for that record, until its child is entered or it is marked.
 --
---     filled-..           the five words of a filled record, and the others
 --     Entered             the words after a record is entered
 --     enter-words         they are so after `entered`
 --     enter-keeps         it keeps a pool sound but for the record entered
@@ -11,104 +10,28 @@
 -- Assumes nothing.
 use Prim.Native.Nat.{ℕ, _+_, _-_, _≤_, _<_}
 use mathlib.Core.Path.{_≡_, refl, sym, _∙_, ap, subst}
-use mathlib.Core.Bool.{Bool, true, false, cond}
-use mathlib.Core.List.{List, [], _∷_}
+use mathlib.Core.List.{[], _∷_}
 use mathlib.Core.Logic.{_⊎_, inl, inr, ⊎-elim}
 use native.Mathlib.Omega.{arith}
 use native.Mathlib.Nat.{mod-eq-of-lt}
 use native.Mathlib.Numerals.{add-one}
 use lib.ListN.{length, drop, getD, drop-of-length-le}
 use lib.Seq.{drop-cons}
-use lib.Dec.{ltb}
-use borrow.Author.Tests.{le-ltb, lt-ltb, eq-eqb, ne-eqb}
 use Rattle.keymap.specs.Limits.{byteLimit}
 use Rattle.keymap.specs.Label.{mark, labelIn}
 use Rattle.keymap.specs.Key.{Key}
-use Rattle.records.specs.Words.{Pool, recordWords, word, put, entry, label, value, firstChild, nextSibling, parent, lastRecord, usedCount, InUse, Node, nextRecord, taken, capacity}
-use Rattle.records.specs.Sound.{In, Chain, LabelsRise, Fits, Children, Sound}
+use Rattle.records.specs.Words.{Pool, recordWords, word, entry, label, value, firstChild, nextSibling, parent, lastRecord, usedCount, InUse, Node, nextRecord, taken, capacity}
+use Rattle.records.specs.Sound.{In, Fits, Children, Sound}
 use Rattle.records.specs.Spelling.{Stops}
-use Rattle.records.proofs.Laws.Distinct.{Once, equal-or-not, below-or-not}
-use Rattle.records.proofs.Laws.Words.{word-put-same, word-put-other, length-put, last-put-other, count-last, node-within, parent-node, next-last, next-unused, length-taken, word-taken, last-taken, in-use-taken, in-use-stays, next-in-use, count-taken}
+use Rattle.records.proofs.Laws.Distinct.{equal-or-not}
+use Rattle.records.proofs.Laws.Words.{word-put-same, count-last, node-within, parent-node, next-last, next-unused, length-taken, word-taken, last-taken, in-use-taken, in-use-stays, next-in-use, count-taken}
 use Rattle.records.proofs.Laws.Sound.{chain-same, chain-starts, rises-same, rises-distinct, children-most}
 use Rattle.pool.specs.declared.siblings.Slot.{Slot}
 use Rattle.pool.specs.Siblings.{slot, slotFrom, slotOf}
-use Rattle.pool.specs.Entering.{Inside, filled, linked, enteredAt, entered, enteredAll, lastEntered, marked, FitsBut, SoundBut, CanEnter, CanEnterAll}
-use Rattle.pool.proofs.Laws.Siblings.{slot-from-end, slot-from-here, slot-from-step, slot-from-prev, slot-of-start, slot-prev-child, slot-prev-node, slot-next-node}
-
--- ---- a record filled
-module _ (p : Pool) (c b x i : ℕ) where
-  abbrev entryPut : Pool
-  entryPut = put p c 0 b
-
-  abbrev valuePut : Pool
-  valuePut = put entryPut c 1 0
-
-  abbrev childPut : Pool
-  childPut = put valuePut c 2 0
-
-  abbrev siblingPut : Pool
-  siblingPut = put childPut c 3 x
-
-  pub length-filled : length (filled p c b x i) ≡ length p
-  unfolding filled
-  length-filled = simp length-put
-
-  -- a put that leaves word l of record d
-  past : (q : Pool) (k v d l : ℕ) → k < recordWords → l < recordWords → (c ≡ d → k ≡ l → ⊥) → (r : Pool) → word q d l ≡ word r d l → word (put q c k v) d l ≡ word r d l
-  past q k v d l hk hl ne r e = word-put-other q c k v d l hk hl ne ∙ e
-
-  pub filled-other : (d l : ℕ) → l < recordWords → (d ≡ c → ⊥) → word (filled p c b x i) d l ≡ word p d l
-  unfolding filled
-  filled-other d l h ne =
-      let off : (k : ℕ) → c ≡ d → k ≡ l → ⊥ = λ k u _. ne (sym u) in
-      past siblingPut 4 i d l (omega arith) h (off 4) p (past childPut 3 x d l (omega arith) h (off 3) p (past valuePut 2 0 d l (omega arith) h (off 2) p
-      (past entryPut 1 0 d l (omega arith) h (off 1) p (word-put-other p c 0 b d l (omega arith) h (off 0)))))
-
-  module _ (inside : Inside p c) where
-    pub filled-parent : parent (filled p c b x i) c ≡ i
-    unfolding filled
-    filled-parent = word-put-same siblingPut c 4 i (simp length-put (omega arith))
-
-    pub filled-sibling : nextSibling (filled p c b x i) c ≡ x
-    unfolding filled
-    filled-sibling = word-put-other siblingPut c 4 i c 3 (omega arith) (omega arith) (λ _ e. omega arith) ∙ word-put-same childPut c 3 x (simp length-put (omega arith))
-
-    pub filled-child : firstChild (filled p c b x i) c ≡ 0
-    unfolding filled
-    filled-child =
-        word-put-other siblingPut c 4 i c 2 (omega arith) (omega arith) (λ _ e. omega arith) ∙ word-put-other childPut c 3 x c 2 (omega arith) (omega arith) (λ _ e. omega arith)
-        ∙ word-put-same valuePut c 2 0 (simp length-put (omega arith))
-
-    pub filled-value : value (filled p c b x i) c ≡ 0
-    unfolding filled
-    filled-value =
-        word-put-other siblingPut c 4 i c 1 (omega arith) (omega arith) (λ _ e. omega arith) ∙ word-put-other childPut c 3 x c 1 (omega arith) (omega arith) (λ _ e. omega arith)
-        ∙ word-put-other valuePut c 2 0 c 1 (omega arith) (omega arith) (λ _ e. omega arith) ∙ word-put-same entryPut c 1 0 (simp length-put (omega arith))
-
-    pub filled-entry : entry (filled p c b x i) c ≡ b
-    unfolding filled
-    filled-entry =
-        word-put-other siblingPut c 4 i c 0 (omega arith) (omega arith) (λ _ e. omega arith) ∙ word-put-other childPut c 3 x c 0 (omega arith) (omega arith) (λ _ e. omega arith)
-        ∙ word-put-other valuePut c 2 0 c 0 (omega arith) (omega arith) (λ _ e. omega arith) ∙ word-put-other entryPut c 1 0 c 0 (omega arith) (omega arith) (λ _ e. omega arith)
-        ∙ word-put-same p c 0 b (omega arith)
-
--- ---- a record hooked in
-module _ (p : Pool) (i a m : ℕ) where
-  pub linked-first : a ≡ 0 → linked p i a m ≡ put p i 2 m
-  unfolding linked
-  linked-first e = simp (eq-eqb _ _ e)
-
-  pub linked-next : (a ≡ 0 → ⊥) → linked p i a m ≡ put p a 3 m
-  unfolding linked
-  linked-next e = simp (ne-eqb _ _ e)
-
-  length-linked : length (linked p i a m) ≡ length p
-  length-linked = ⊎-elim (λ e. ap length (linked-first e) ∙ simp length-put) (λ ne. ap length (linked-next ne) ∙ simp length-put) (equal-or-not a 0)
-
-  linked-other : (d l : ℕ) → l < recordWords → (d ≡ i → l ≡ 2 → a ≡ 0 → ⊥) → (d ≡ a → l ≡ 3 → (a ≡ 0 → ⊥) → ⊥) → word (linked p i a m) d l ≡ word p d l
-  linked-other d l h off next =
-      ⊎-elim (λ e. ap (λ (r : Pool). word r d l) (linked-first e) ∙ word-put-other p i 2 m d l (omega arith) h (λ u v. off (sym u) (sym v) e))
-      (λ ne. ap (λ (r : Pool). word r d l) (linked-next ne) ∙ word-put-other p a 3 m d l (omega arith) h (λ u v. next (sym u) (sym v) ne)) (equal-or-not a 0)
+use Rattle.pool.specs.Writing.{Inside, filled, linked, marked}
+use Rattle.pool.specs.Entering.{enteredAt, entered, enteredAll, lastEntered, FitsBut, SoundBut, CanEnter, CanEnterAll}
+use Rattle.pool.proofs.Laws.Writing.{length-filled, filled-other, filled-parent, filled-sibling, filled-child, filled-value, filled-entry, linked-first, linked-next, length-linked, linked-other, length-marked, marked-other, marked-last, marked-entry, marked-label}
+use Rattle.pool.proofs.Laws.Siblings.{placed, in-placed, placed-in, placed-rises, placed-chain, slot-of-start, slot-prev-child, slot-prev-node, slot-next-node}
 
 -- ---- one record entered: the words of q, which is p with record m entered with label b under i, after a and before x
 pub record Entered (p q : Pool) (i b m a x : ℕ) : Type 0 where
@@ -160,76 +83,6 @@ module _ (p : Pool) (i b m : ℕ) (s : Slot) (mi : i ≡ m → ⊥) (ma : s .pre
     same = λ d l h nm root first next.
         word-taken H m d l h root ∙ linked-other F i (s .prev) m d l h first next ∙ filled-other p m b (s .next) i d l h nm;
   }
-
--- ---- a chain with one record more
--- m, whose label is b, put among the records by label
-abbrev placed : Pool → (b m : ℕ) → List ℕ → List ℕ
-placed p b m [] = m ∷ []
-placed p b m (x ∷ xs) = cond (ltb (label p x) b) (x ∷ placed p b m xs) (m ∷ x ∷ xs)
-
-in-placed : (p : Pool) (b m k : ℕ) (xs : List ℕ) → In k (placed p b m xs) → (k ≡ m) ⊎ In k xs
-in-placed p b m k [] h = h
-in-placed p b m k (x ∷ xs) h = go (ltb (label p x) b) (in-placed p b m k xs) h
-  where
-    go : (t : Bool) → (In k (placed p b m xs) → (k ≡ m) ⊎ In k xs) → In k (cond t (x ∷ placed p b m xs) (m ∷ x ∷ xs)) → (k ≡ m) ⊎ ((k ≡ x) ⊎ In k xs)
-    go true ih (inl e) = inr (inl e)
-    go true ih (inr q) = ⊎-elim (λ e. inl e) (λ r. inr (inr r)) (ih q)
-    go false ih q = q
-
-placed-in : (p : Pool) (b m k : ℕ) (xs : List ℕ) → (k ≡ m) ⊎ In k xs → In k (placed p b m xs)
-placed-in p b m k [] h = h
-placed-in p b m k (x ∷ xs) h = go (ltb (label p x) b) (placed-in p b m k xs) h
-  where
-    go : (t : Bool) → ((k ≡ m) ⊎ In k xs → In k (placed p b m xs)) → (k ≡ m) ⊎ ((k ≡ x) ⊎ In k xs) → In k (cond t (x ∷ placed p b m xs) (m ∷ x ∷ xs))
-    go true ih (inl e) = inr (ih (inl e))
-    go true ih (inr (inl e)) = inl e
-    go true ih (inr (inr r)) = inr (ih (inr r))
-    go false ih q = q
-
-module _ (p q : Pool) (b m : ℕ) (lab : label q m ≡ b) where
-  placed-rises : (l : ℕ) (xs : List ℕ) → LabelsRise p l xs → l ≤ b → ((k : ℕ) → In k xs → label q k ≡ label p k) → ((k : ℕ) → In k xs → label p k ≡ b → ⊥)
-      → LabelsRise q l (placed p b m xs)
-  placed-rises l [] h lb s ab = (omega arith, tt)
-  placed-rises l (x ∷ xs) h lb s ab =
-      let e : label q x ≡ label p x = s x (inl refl) in
-      ⊎-elim
-      (λ (lt : label p x < b).
-      rw (lt-ltb _ _ lt) (omega (arith, h .0), rw e (placed-rises (label p x + 1) xs (h .1) (omega arith) (λ k n. s k (inr n)) (λ k n. ab k (inr n)))))
-      (λ (ge : b ≤ label p x).
-      rw (le-ltb _ _ ge) (omega arith, (omega (arith, ab x (inl refl)), rw e (rises-same p q (label p x + 1) xs (h .1) (λ k n. s k (inr n))))))
-      (below-or-not (label p x) b)
-
-  -- the chain from h on, where the search from a, before c, came out at `out`
-  placed-chain : (f a c : ℕ) (xs : List ℕ) (out : Slot) → out ≡ slotFrom p f a c b → Chain (nextSibling p) c xs → length xs ≤ f → Once xs → (In a xs → ⊥) → 0 < m
-      → nextSibling q m ≡ out .next
-      → ((k : ℕ) → In k xs → (k ≡ out .prev → ⊥) → nextSibling q k ≡ nextSibling p k)
-      → ((k : ℕ) → In k xs → k ≡ out .prev → nextSibling q k ≡ m)
-      → (h : ℕ) → (out .prev ≡ a → h ≡ m) → ((out .prev ≡ a → ⊥) → h ≡ c)
-      → Chain (nextSibling q) h (placed p b m xs)
-  placed-chain f a c [] out e l fl nd na mz nm sm lk h h1 h2 =
-      let o = e ∙ slot-from-end p f a c b l in
-      (h1 (ap (λ (s : Slot). s .prev) o), mz, nm ∙ ap (λ (s : Slot). s .next) o ∙ l)
-  placed-chain f a c (x ∷ xs) out e l fl nd na mz nm sm lk h h1 h2 =
-      let nz : c ≡ 0 → ⊥ = λ z. omega (arith, l .0, l .1) in
-      let cx : c ≡ x = l .0 in
-      ⊎-elim
-      (λ (lt : label p x < b).
-      let lc : label p c < b = subst (λ (k : ℕ). label p k < b) (sym cx) lt in
-      let o : out ≡ slotFrom p (f - 1) c (nextSibling p c) b = e ∙ slot-from-step p f a c b (omega arith) nz lc in
-      let on : out ≡ slotFrom p (f - 1) x (nextSibling p x) b = subst (λ (k : ℕ). out ≡ slotFrom p (f - 1) k (nextSibling p k) b) cx o in
-      let there : (out .prev ≡ x) ⊎ In (out .prev) xs = subst (λ (s : Slot). (s .prev ≡ x) ⊎ In (s .prev) xs) (sym on) (slot-from-prev p b (f - 1) x (nextSibling p x) xs (l .2)) in
-      let far : out .prev ≡ a → ⊥ = λ z. na (subst (λ (k : ℕ). (k ≡ x) ⊎ In k xs) z there) in
-      let rest : Chain (nextSibling q) (nextSibling q x) (placed p b m xs) =
-      placed-chain (f - 1) x (nextSibling p x) xs out on (l .2) (omega arith) (nd .1) (nd .0) mz nm (λ k n. sm k (inr n)) (λ k n. lk k (inr n)) (nextSibling q x) (λ z. lk x (inl refl) (sym z)) (λ z. sm x (inl refl) (λ y. z (sym y))) in
-      rw (lt-ltb _ _ lt) (h2 far ∙ cx, l .1, rest))
-      (λ (ge : b ≤ label p x).
-      let gc : b ≤ label p c = subst (λ (k : ℕ). b ≤ label p k) (sym cx) ge in
-      let o : out ≡ slot a c = e ∙ slot-from-here p f a c b nz gc in
-      let pa : out .prev ≡ a = ap (λ (s : Slot). s .prev) o in
-      let stays : (k : ℕ) → (k ≡ x) ⊎ In k xs → nextSibling q k ≡ nextSibling p k = λ k n. sm k n (λ z. na (subst (λ (j : ℕ). (j ≡ x) ⊎ In j xs) (z ∙ pa) n)) in
-      let back : Chain (nextSibling q) c (x ∷ xs) = chain-same (nextSibling p) (nextSibling q) c (x ∷ xs) l stays in
-      rw (le-ltb _ _ ge) (h1 pa, mz, subst (λ (j : ℕ). Chain (nextSibling q) j (x ∷ xs)) (sym (nm ∙ ap (λ (s : Slot). s .next) o)) back))
-      (below-or-not (label p x) b)
 
 -- ---- sound but for a record
 pub sound-but : (p : Pool) (e : ℕ) → Sound p → SoundBut p e
@@ -493,39 +346,6 @@ module _ (p : Pool) (key : Key) (i d : ℕ) where
     can-enter-on q m e f = rw (e, f) (can-enter-rest p i (getD key d 0) (drop (d + 1) key) cons)
 
 -- ---- the mark
-module _ (p : Pool) (t v : ℕ) where
-  abbrev M : Pool
-  M = put p t 0 (label p t + mark)
-
-  pub length-marked : length (marked p t v) ≡ length p
-  unfolding marked
-  length-marked = simp length-put
-
-  pub marked-other : (c l : ℕ) → l < recordWords → (t ≡ c → 1 < l) → word (marked p t v) c l ≡ word p c l
-  unfolding marked
-  marked-other c l h ne =
-      word-put-other M t 1 v c l (omega arith) h (λ u w. omega (arith, ne u)) ∙ word-put-other p t 0 (label p t + mark) c l (omega arith) h (λ u w. omega (arith, ne u))
-
-  pub marked-last : 0 < t → lastRecord (marked p t v) ≡ lastRecord p
-  unfolding marked
-  marked-last z = last-put-other M t 1 v (omega arith) (λ u w. omega arith) ∙ last-put-other p t 0 (label p t + mark) (omega arith) (λ u w. omega arith)
-
-  pub marked-count : 0 < t → usedCount (marked p t v) ≡ usedCount p
-  marked-count z = omega (arith, count-last p, count-last (marked p t v), marked-last z)
-
-  module _ (inside : Inside p t) where
-    pub marked-entry : entry (marked p t v) t ≡ label p t + mark
-    unfolding marked
-    marked-entry = word-put-other M t 1 v t 0 (omega arith) (omega arith) (λ u w. omega arith) ∙ word-put-same p t 0 (label p t + mark) (omega arith)
-
-    pub marked-value : value (marked p t v) t ≡ v
-    unfolding marked
-    marked-value = word-put-same M t 1 v (simp length-put (omega arith))
-
-    pub marked-label : (c : ℕ) → label (marked p t v) c ≡ label p c
-    marked-label c =
-        ⊎-elim (λ (u : c ≡ t). rw u (omega (arith, marked-entry))) (λ nu. ap labelIn (marked-other c 0 (omega arith) (λ u. absurd (nu (sym u))))) (equal-or-not c t)
-
 module _ (p : Pool) (t v : ℕ) (s : SoundBut p t) (u : InUse p t) where
   abbrev R : Pool
   R = marked p t v

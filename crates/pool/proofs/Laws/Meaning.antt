@@ -41,11 +41,13 @@ use Rattle.records.proofs.Laws.Meaning.{map-rising, map-holds, count-prefixes, 
 use Rattle.pool.specs.Answers.{accepted}
 use Rattle.pool.specs.Siblings.{slotOf}
 use Rattle.pool.specs.Path.{reachOf, missingLabels}
-use Rattle.pool.specs.Entering.{Inside, entered, enteredAll, lastEntered, marked, SoundBut, CanEnter, CanEnterAll}
+use Rattle.pool.specs.Writing.{Inside, marked}
+use Rattle.pool.specs.Entering.{entered, enteredAll, lastEntered, SoundBut, CanEnter, CanEnterAll}
 use Rattle.pool.specs.Reset.{resetPool}
 use Rattle.pool.specs.Push.{insertedAt, inserted, hasRoom, pushSays, pushPool}
 use Rattle.pool.proofs.Laws.Path.{Split, reach-split, split-rest, split-missing}
-use Rattle.pool.proofs.Laws.Entering.{Entered, enter-words, can-enter, can-enter-rest, EnteredAll, entered-all, node-inside, marked-other, marked-entry, marked-value, marked-label, marked-last}
+use Rattle.pool.proofs.Laws.Writing.{marked-other, marked-entry, marked-value, marked-label, marked-last}
+use Rattle.pool.proofs.Laws.Entering.{Entered, enter-words, can-enter, can-enter-rest, EnteredAll, entered-all, node-inside}
 use Rattle.pool.proofs.Laws.Reset.{length-reset, reset-sound, reset-count}
 use Rattle.pool.proofs.Laws.Push.{tested-full, tested-done, push-tested, push-accepted, can-insert, end-in-use, insert-keeps}
 

@@ -27,10 +27,12 @@ use Rattle.pool.specs.declared.answers.Pushed.{Pushed}
 use Rattle.pool.specs.declared.path.Reach.{Reach}
 use Rattle.pool.specs.Answers.{saidPushed, accepted}
 use Rattle.pool.specs.Path.{reachOf, missingLabels}
-use Rattle.pool.specs.Entering.{enteredAll, lastEntered, marked, Inside, CanEnterAll}
+use Rattle.pool.specs.Writing.{marked, Inside}
+use Rattle.pool.specs.Entering.{enteredAll, lastEntered, CanEnterAll}
 use Rattle.pool.specs.Push.{insertedAt, inserted, hasRoom, testedSays, pushSays, pushPool, TestedPush}
 use Rattle.pool.proofs.Laws.Path.{Split, reach-split, split-rest, split-missing, split-within, bytes-right}
-use Rattle.pool.proofs.Laws.Entering.{length-marked, sound-but, node-inside, EnteredAll, entered-all, mark-keeps}
+use Rattle.pool.proofs.Laws.Writing.{length-marked}
+use Rattle.pool.proofs.Laws.Entering.{sound-but, node-inside, EnteredAll, entered-all, mark-keeps}
 
 module _ (p : Pool) (key : Key) where
   pub tested-empty : length key ≡ 0 → refusalNumber Refusal.EmptyKey ∷ [] ≡ testedSays p key

@@ -15,9 +15,9 @@ use Rattle.records.specs.Words.{Pool, recordWords, lastRecord, usedCount}
 use Rattle.records.specs.Sound.{Children, Sound}
 use Rattle.records.proofs.Laws.Words.{last-entry, count-last, node-within}
 use Rattle.pool.specs.Answers.{accepted}
-use Rattle.pool.specs.Entering.{filled}
+use Rattle.pool.specs.Writing.{filled}
 use Rattle.pool.specs.Reset.{resetSays, resetPool}
-use Rattle.pool.proofs.Laws.Entering.{length-filled, filled-entry, filled-value, filled-child, filled-sibling, filled-parent}
+use Rattle.pool.proofs.Laws.Writing.{length-filled, filled-entry, filled-value, filled-child, filled-sibling, filled-parent}
 
 module _ (p : Pool) where
   pub reset-small : length p < recordWords → (refusalNumber Refusal.PoolTooSmall ∷ [] ≡ resetSays p) × (p ≡ resetPool p)

@@ -4,6 +4,7 @@
 --     slot-from-..     the search's cases: out of steps, at the chain's end, at the place, one step on
 --     slot-from-prev   what the slot follows is where the search began, or one of the chain
 --     slot-from-finds  a sibling with the label is found
+--     placed-..        a chain with one record more, put in by label
 --     child-here, child-none    the two cases of `childAt`
 --     child-found      the child with a label is the one
 --     child-is         what `childAt` gives is a child with that label
@@ -17,13 +18,13 @@ use mathlib.Core.Logic.{_⊎_, inl, inr, ⊎-elim}
 use native.Mathlib.Omega.{arith}
 use native.Mathlib.Numerals.{sub-one}
 use lib.ListN.{length}
-use lib.Dec.{eqb}
+use lib.Dec.{ltb, eqb}
 use borrow.Author.Tests.{le-ltb, lt-ltb, eq-eqb, ne-eqb, eqb-true}
 use Rattle.records.specs.Words.{Pool, label, firstChild, nextSibling, lastRecord, Node}
 use Rattle.records.specs.Sound.{In, Chain, LabelsRise, Children}
 use Rattle.records.specs.Spelling.{ChildBy}
-use Rattle.records.proofs.Laws.Distinct.{equal-or-not, below-or-not}
-use Rattle.records.proofs.Laws.Sound.{rises-above, children-most}
+use Rattle.records.proofs.Laws.Distinct.{Once, equal-or-not, below-or-not}
+use Rattle.records.proofs.Laws.Sound.{chain-same, rises-same, rises-above, children-most}
 use Rattle.pool.specs.declared.siblings.Slot.{Slot}
 use Rattle.pool.specs.Siblings.{slot, slotFrom, slotOf, childAt}
 
@@ -97,6 +98,76 @@ slot-from-finds p b f a c l (x ∷ xs) h r n k (inr q) e =
     let s = slot-from-step p f a c b (omega arith) (chain-head (nextSibling p) c x xs h) (omega (arith, ap (λ (j : ℕ). label p j) (h .0))) in
     ap (λ (s : Slot). s .next) s
     ∙ slot-from-finds p b (f - 1) c (nextSibling p c) (label p x + 1) xs (subst (λ (j : ℕ). Chain (nextSibling p) (nextSibling p j) xs) (sym (h .0)) (h .2)) (r .1) (omega arith) k q e
+
+-- ---- a chain with one record more
+-- m, whose label is b, put among the records by label
+abbrev pub placed : Pool → (b m : ℕ) → List ℕ → List ℕ
+placed p b m [] = m ∷ []
+placed p b m (x ∷ xs) = cond (ltb (label p x) b) (x ∷ placed p b m xs) (m ∷ x ∷ xs)
+
+pub in-placed : (p : Pool) (b m k : ℕ) (xs : List ℕ) → In k (placed p b m xs) → (k ≡ m) ⊎ In k xs
+in-placed p b m k [] h = h
+in-placed p b m k (x ∷ xs) h = go (ltb (label p x) b) (in-placed p b m k xs) h
+  where
+    go : (t : Bool) → (In k (placed p b m xs) → (k ≡ m) ⊎ In k xs) → In k (cond t (x ∷ placed p b m xs) (m ∷ x ∷ xs)) → (k ≡ m) ⊎ ((k ≡ x) ⊎ In k xs)
+    go true ih (inl e) = inr (inl e)
+    go true ih (inr q) = ⊎-elim (λ e. inl e) (λ r. inr (inr r)) (ih q)
+    go false ih q = q
+
+pub placed-in : (p : Pool) (b m k : ℕ) (xs : List ℕ) → (k ≡ m) ⊎ In k xs → In k (placed p b m xs)
+placed-in p b m k [] h = h
+placed-in p b m k (x ∷ xs) h = go (ltb (label p x) b) (placed-in p b m k xs) h
+  where
+    go : (t : Bool) → ((k ≡ m) ⊎ In k xs → In k (placed p b m xs)) → (k ≡ m) ⊎ ((k ≡ x) ⊎ In k xs) → In k (cond t (x ∷ placed p b m xs) (m ∷ x ∷ xs))
+    go true ih (inl e) = inr (ih (inl e))
+    go true ih (inr (inl e)) = inl e
+    go true ih (inr (inr r)) = inr (ih (inr r))
+    go false ih q = q
+
+module _ (p q : Pool) (b m : ℕ) (lab : label q m ≡ b) where
+  pub placed-rises : (l : ℕ) (xs : List ℕ) → LabelsRise p l xs → l ≤ b → ((k : ℕ) → In k xs → label q k ≡ label p k) → ((k : ℕ) → In k xs → label p k ≡ b → ⊥)
+      → LabelsRise q l (placed p b m xs)
+  placed-rises l [] h lb s ab = (omega arith, tt)
+  placed-rises l (x ∷ xs) h lb s ab =
+      let e : label q x ≡ label p x = s x (inl refl) in
+      ⊎-elim
+      (λ (lt : label p x < b).
+      rw (lt-ltb _ _ lt) (omega (arith, h .0), rw e (placed-rises (label p x + 1) xs (h .1) (omega arith) (λ k n. s k (inr n)) (λ k n. ab k (inr n)))))
+      (λ (ge : b ≤ label p x).
+      rw (le-ltb _ _ ge) (omega arith, (omega (arith, ab x (inl refl)), rw e (rises-same p q (label p x + 1) xs (h .1) (λ k n. s k (inr n))))))
+      (below-or-not (label p x) b)
+
+  -- the chain from h on, where the search from a, before c, came out at `out`
+  pub placed-chain : (f a c : ℕ) (xs : List ℕ) (out : Slot) → out ≡ slotFrom p f a c b → Chain (nextSibling p) c xs → length xs ≤ f → Once xs → (In a xs → ⊥) → 0 < m
+      → nextSibling q m ≡ out .next
+      → ((k : ℕ) → In k xs → (k ≡ out .prev → ⊥) → nextSibling q k ≡ nextSibling p k)
+      → ((k : ℕ) → In k xs → k ≡ out .prev → nextSibling q k ≡ m)
+      → (h : ℕ) → (out .prev ≡ a → h ≡ m) → ((out .prev ≡ a → ⊥) → h ≡ c)
+      → Chain (nextSibling q) h (placed p b m xs)
+  placed-chain f a c [] out e l fl nd na mz nm sm lk h h1 h2 =
+      let o = e ∙ slot-from-end p f a c b l in
+      (h1 (ap (λ (s : Slot). s .prev) o), mz, nm ∙ ap (λ (s : Slot). s .next) o ∙ l)
+  placed-chain f a c (x ∷ xs) out e l fl nd na mz nm sm lk h h1 h2 =
+      let nz : c ≡ 0 → ⊥ = λ z. omega (arith, l .0, l .1) in
+      let cx : c ≡ x = l .0 in
+      ⊎-elim
+      (λ (lt : label p x < b).
+      let lc : label p c < b = subst (λ (k : ℕ). label p k < b) (sym cx) lt in
+      let o : out ≡ slotFrom p (f - 1) c (nextSibling p c) b = e ∙ slot-from-step p f a c b (omega arith) nz lc in
+      let on : out ≡ slotFrom p (f - 1) x (nextSibling p x) b = subst (λ (k : ℕ). out ≡ slotFrom p (f - 1) k (nextSibling p k) b) cx o in
+      let there : (out .prev ≡ x) ⊎ In (out .prev) xs = subst (λ (s : Slot). (s .prev ≡ x) ⊎ In (s .prev) xs) (sym on) (slot-from-prev p b (f - 1) x (nextSibling p x) xs (l .2)) in
+      let far : out .prev ≡ a → ⊥ = λ z. na (subst (λ (k : ℕ). (k ≡ x) ⊎ In k xs) z there) in
+      let rest : Chain (nextSibling q) (nextSibling q x) (placed p b m xs) =
+      placed-chain (f - 1) x (nextSibling p x) xs out on (l .2) (omega arith) (nd .1) (nd .0) mz nm (λ k n. sm k (inr n)) (λ k n. lk k (inr n)) (nextSibling q x) (λ z. lk x (inl refl) (sym z)) (λ z. sm x (inl refl) (λ y. z (sym y))) in
+      rw (lt-ltb _ _ lt) (h2 far ∙ cx, l .1, rest))
+      (λ (ge : b ≤ label p x).
+      let gc : b ≤ label p c = subst (λ (k : ℕ). b ≤ label p k) (sym cx) ge in
+      let o : out ≡ slot a c = e ∙ slot-from-here p f a c b nz gc in
+      let pa : out .prev ≡ a = ap (λ (s : Slot). s .prev) o in
+      let stays : (k : ℕ) → (k ≡ x) ⊎ In k xs → nextSibling q k ≡ nextSibling p k = λ k n. sm k n (λ z. na (subst (λ (j : ℕ). (j ≡ x) ⊎ In j xs) (z ∙ pa) n)) in
+      let back : Chain (nextSibling q) c (x ∷ xs) = chain-same (nextSibling p) (nextSibling q) c (x ∷ xs) l stays in
+      rw (le-ltb _ _ ge) (h1 pa, mz, subst (λ (j : ℕ). Chain (nextSibling q) j (x ∷ xs)) (sym (nm ∙ ap (λ (s : Slot). s .next) o)) back))
+      (below-or-not (label p x) b)
 
 -- ---- the child with a label
 module _ (p : Pool) (i b : ℕ) (s : Slot) (e : s ≡ slotOf p i b) where

@@ -5,7 +5,6 @@
 --     chain-same, rises-same           what two pools with the same links, or labels, have in common
 --     rises-above, rises-distinct      labels that rise
 --     children-most                    a record has no more children than there are records
---     child-in-use, sibling-in-use     where links lead
 -- Assumes nothing.
 use Prim.Native.Nat.{ℕ, _+_, _≤_, _<_}
 use mathlib.Core.Path.{_≡_, refl, sym, _∙_, ap, subst}
@@ -13,7 +12,7 @@ use mathlib.Core.List.{List, [], _∷_}
 use mathlib.Core.Logic.{inl, inr}
 use lib.ListN.{length}
 use native.Mathlib.Omega.{arith}
-use Rattle.records.specs.Words.{Pool, label, firstChild, nextSibling, lastRecord, InUse, Node}
+use Rattle.records.specs.Words.{Pool, label, lastRecord}
 use Rattle.records.specs.Sound.{In, Chain, LabelsRise, Children}
 use Rattle.records.proofs.Laws.Distinct.{Once, once-at-most}
 
@@ -76,19 +75,3 @@ rises-distinct p l (x ∷ xs) r =
 
 pub children-most : (p : Pool) (c : ℕ) (k : Children p c) → length (k .kids) ≤ lastRecord p
 children-most p c k = once-at-most (lastRecord p) (k .kids) (rises-distinct p 0 (k .kids) (k .rising)) (λ x m. k .only x m .0)
-
-chain-first : (p : Pool) (f : ℕ → ℕ) (c : ℕ) (xs : List ℕ) → Chain f c xs → ((x : ℕ) → In x xs → InUse p x) → Node p c
-chain-first p f c [] a o = inl a
-chain-first p f c (x ∷ xs) a o = inr (subst (InUse p) (sym (a .0)) (o x (inl refl)))
-
-chain-next : (p : Pool) (f : ℕ → ℕ) (c : ℕ) (xs : List ℕ) → Chain f c xs → ((x : ℕ) → In x xs → InUse p x) → (x : ℕ) → In x xs → Node p (f x)
-chain-next p f c [] a o x h = absurd h
-chain-next p f c (y ∷ ys) a o x (inl e) = subst (λ (k : ℕ). Node p (f k)) (sym e) (chain-first p f (f y) ys (a .2) (λ z m. o z (inr m)))
-chain-next p f c (y ∷ ys) a o x (inr h) = chain-next p f (f y) ys (a .2) (λ z m. o z (inr m)) x h
-
--- the link of a chain of children, 0 at its end
-pub child-in-use : (p : Pool) (c : ℕ) → Children p c → Node p (firstChild p c)
-child-in-use p c k = chain-first p (nextSibling p) (firstChild p c) (k .kids) (k .chain) (λ x m. k .only x m .0)
-
-pub sibling-in-use : (p : Pool) (c : ℕ) (k : Children p c) (x : ℕ) → In x (k .kids) → Node p (nextSibling p x)
-sibling-in-use p c k x h = chain-next p (nextSibling p) (firstChild p c) (k .kids) (k .chain) (λ y m. k .only y m .0) x h

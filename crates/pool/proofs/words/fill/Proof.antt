@@ -1,6 +1,6 @@
 -- `pool::words::fill` meets its contract: the five stores are the five puts of `filled`. Assumes nothing.
 use borrow.Author.Needs.{needs}
-use Rattle.pool.specs.Entering.{filled}
+use Rattle.pool.specs.Writing.{filled}
 use Rattle.pool.proofs.words.fill.Statement.{statement}
 use Rattle.pool.proofs.words.fill.Tie as tie
 

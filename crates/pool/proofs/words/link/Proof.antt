@@ -1,7 +1,7 @@
 -- `pool::words::link` meets its contract: the test says which case of `linked` holds. Assumes nothing.
 use mathlib.Core.Path.{sym, _∙_}
 use borrow.Author.Needs.{needs}
-use Rattle.pool.proofs.Laws.Entering.{linked-first, linked-next}
+use Rattle.pool.proofs.Laws.Writing.{linked-first, linked-next}
 use Rattle.pool.proofs.words.link.Statement.{statement}
 use Rattle.pool.proofs.words.link.Tie as tie
 

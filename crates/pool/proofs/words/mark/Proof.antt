@@ -1,6 +1,6 @@
 -- `pool::words::mark` meets its contract. Assumes nothing.
 use borrow.Author.Needs.{needs}
-use Rattle.pool.specs.Entering.{marked}
+use Rattle.pool.specs.Writing.{marked}
 use Rattle.pool.proofs.words.mark.Statement.{statement}
 use Rattle.pool.proofs.words.mark.Tie as tie
 

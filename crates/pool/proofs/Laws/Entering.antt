@@ -1,4 +1,4 @@
--- Laws of entering records. The words after one record is entered follow from the puts; with them the chain of its parent is the old one with the record put in by label,
+-- Laws of entering records. The words after one record is entered follow from the puts; with them the chain of its parent is what it was with the record put in by label,
 -- every other chain is as it was, and the record's own is empty. So the pool stays sound but for that record, until its child is entered or it is marked.
 --
 --     Entered             the words after a record is entered
@@ -47,41 +47,41 @@ pub record Entered (p q : Pool) (i b m a x : ℕ) : Type 0 where
   pub same : (d l : ℕ) → l < recordWords → (d ≡ m → ⊥) → (d ≡ 0 → l ≡ 0 → ⊥) → (d ≡ i → l ≡ 2 → a ≡ 0 → ⊥) → (d ≡ a → l ≡ 3 → (a ≡ 0 → ⊥) → ⊥) → word q d l ≡ word p d l
 
 module _ (p : Pool) (i b m : ℕ) (s : Slot) (mi : i ≡ m → ⊥) (ma : s .prev ≡ m → ⊥) (mz : 0 < m) (inside : Inside p m) (insideI : Inside p i) (insideA : Inside p (s .prev)) where
-  abbrev F : Pool
-  F = filled p m b (s .next) i
+  abbrev filledPool : Pool
+  filledPool = filled p m b (s .next) i
 
-  abbrev H : Pool
-  H = linked F i (s .prev) m
+  abbrev linkedPool : Pool
+  linkedPool = linked filledPool i (s .prev) m
 
-  abbrev Q : Pool
-  Q = taken H m
+  abbrev takenPool : Pool
+  takenPool = taken linkedPool m
 
-  lenF : length F ≡ length p
-  lenF = length-filled p m b (s .next) i
+  length-of-filled : length filledPool ≡ length p
+  length-of-filled = length-filled p m b (s .next) i
 
-  lenH : length H ≡ length p
-  lenH = length-linked F i (s .prev) m ∙ lenF
+  length-of-linked : length linkedPool ≡ length p
+  length-of-linked = length-linked filledPool i (s .prev) m ∙ length-of-filled
 
-  of-new : (l : ℕ) → l < recordWords → word Q m l ≡ word F m l
-  of-new l h = word-taken H m m l h (λ u v. omega arith) ∙ linked-other F i (s .prev) m m l h (λ u v w. mi (sym u)) (λ u v w. ma (sym u))
+  of-entered : (l : ℕ) → l < recordWords → word takenPool m l ≡ word filledPool m l
+  of-entered l h = word-taken linkedPool m m l h (λ u v. omega arith) ∙ linked-other filledPool i (s .prev) m m l h (λ u v w. mi (sym u)) (λ u v w. ma (sym u))
 
   entered-at : Entered p (enteredAt p i b m s) i b m (s .prev) (s .next)
   unfolding enteredAt
   entered-at = record {
-    len = length-taken H m ∙ lenH;
-    last = last-taken H m (omega (arith, lenH));
-    own-entry = of-new 0 (omega arith) ∙ filled-entry p m b (s .next) i inside;
-    own-value = of-new 1 (omega arith) ∙ filled-value p m b (s .next) i inside;
-    own-child = of-new 2 (omega arith) ∙ filled-child p m b (s .next) i inside;
-    own-sibling = of-new 3 (omega arith) ∙ filled-sibling p m b (s .next) i inside;
-    own-parent = of-new 4 (omega arith) ∙ filled-parent p m b (s .next) i inside;
+    len = length-taken linkedPool m ∙ length-of-linked;
+    last = last-taken linkedPool m (omega (arith, length-of-linked));
+    own-entry = of-entered 0 (omega arith) ∙ filled-entry p m b (s .next) i inside;
+    own-value = of-entered 1 (omega arith) ∙ filled-value p m b (s .next) i inside;
+    own-child = of-entered 2 (omega arith) ∙ filled-child p m b (s .next) i inside;
+    own-sibling = of-entered 3 (omega arith) ∙ filled-sibling p m b (s .next) i inside;
+    own-parent = of-entered 4 (omega arith) ∙ filled-parent p m b (s .next) i inside;
     from-parent = λ e.
-        word-taken H m i 2 (omega arith) (λ u v. omega arith) ∙ ap (λ (r : Pool). word r i 2) (linked-first F i (s .prev) m e) ∙ word-put-same F i 2 m (omega (arith, lenF));
+        word-taken linkedPool m i 2 (omega arith) (λ u v. omega arith) ∙ ap (λ (r : Pool). word r i 2) (linked-first filledPool i (s .prev) m e) ∙ word-put-same filledPool i 2 m (omega (arith, length-of-filled));
     from-sibling = λ ne.
-        word-taken H m (s .prev) 3 (omega arith) (λ u v. omega arith) ∙ ap (λ (r : Pool). word r (s .prev) 3) (linked-next F i (s .prev) m ne)
-        ∙ word-put-same F (s .prev) 3 m (omega (arith, lenF));
+        word-taken linkedPool m (s .prev) 3 (omega arith) (λ u v. omega arith) ∙ ap (λ (r : Pool). word r (s .prev) 3) (linked-next filledPool i (s .prev) m ne)
+        ∙ word-put-same filledPool (s .prev) 3 m (omega (arith, length-of-filled));
     same = λ d l h nm root first next.
-        word-taken H m d l h root ∙ linked-other F i (s .prev) m d l h first next ∙ filled-other p m b (s .next) i d l h nm;
+        word-taken linkedPool m d l h root ∙ linked-other filledPool i (s .prev) m d l h first next ∙ filled-other p m b (s .next) i d l h nm;
   }
 
 -- ---- sound but for a record
@@ -107,7 +107,7 @@ node-inside p e c s h = let r = s .within in let l = s .rooted in omega (arith, 
 
 module _ (p q : Pool) (i b m a x : ℕ) (s : SoundBut p i) (node : Node p i) (byte : b < byteLimit) (A : Entered p q i b m a x)
     (positive : 0 < m) (unused : Node p m → ⊥) (low : i < m) (within : lastRecord q ≤ capacity q)
-    (new : (c : ℕ) → InUse q c → InUse p c ⊎ (c ≡ m)) (stays : (c : ℕ) → InUse p c → InUse q c) (used : InUse q m) (more : lastRecord p ≤ lastRecord q)
+    (known-or-entered : (c : ℕ) → InUse q c → InUse p c ⊎ (c ≡ m)) (stays : (c : ℕ) → InUse p c → InUse q c) (used : InUse q m) (more : lastRecord p ≤ lastRecord q)
     (after : (a ≡ 0) ⊎ In a (s .children i node .kids)) (upto : Node p x) (seeks : slot a x ≡ slotFrom p (lastRecord p) 0 (firstChild p i) b)
     (absent : (k : ℕ) → In k (s .children i node .kids) → label p k ≡ b → ⊥) where
   abbrev K : Children p i
@@ -152,7 +152,7 @@ module _ (p q : Pool) (i b m a x : ℕ) (s : SoundBut p i) (node : Node p i) (by
         (firstChild q i) (A .from-parent) (λ z. child-same i node (λ u v. z v));
     rising = placed-rises p q b m own-label 0 (K .kids) (K .rising) (omega arith) (λ k h. label-same k (K .only k h .0)) absent;
     only = λ c h. ⊎-elim (λ (z : c ≡ m). (subst (InUse q) (sym z) used, rw z (A .own-parent))) (λ r. let o = K .only c r in (stays c (o .0), parent-same c (inr (o .0)) ∙ o .1)) (in-placed p b m c (K .kids) h);
-    all = λ c u t. placed-in p b m c (K .kids) (⊎-elim (λ v. inr (K .all c v (sym (parent-same c (inr v)) ∙ t))) (λ z. inl z) (new c u));
+    all = λ c u t. placed-in p b m c (K .kids) (⊎-elim (λ v. inr (K .all c v (sym (parent-same c (inr v)) ∙ t))) (λ z. inl z) (known-or-entered c u));
   }
 
   -- the chain of any other is as it was
@@ -167,7 +167,7 @@ module _ (p q : Pool) (i b m a x : ℕ) (s : SoundBut p i) (node : Node p i) (by
             (λ y n. sibling-same y (inr (k .only y n .0)) (λ u v. ne (sym (k .only y n .1) ∙ ap (λ (t : ℕ). parent p t) u ∙ a-child v .1))));
         rising = rises-same p q 0 (k .kids) (k .rising) (λ y n. label-same y (k .only y n .0));
         only = λ y n. let o = k .only y n in (stays y (o .0), parent-same y (inr (o .0)) ∙ o .1);
-        all = λ y u t. ⊎-elim (λ v. k .all y v (sym (parent-same y (inr v)) ∙ t)) (λ (z : y ≡ m). absurd (ne (sym t ∙ rw z (A .own-parent)))) (new y u);
+        all = λ y u t. ⊎-elim (λ v. k .all y v (sym (parent-same y (inr v)) ∙ t)) (λ (z : y ≡ m). absurd (ne (sym t ∙ rw z (A .own-parent)))) (known-or-entered y u);
       }
 
   -- the record entered has no child: no parent is a record that was not in use
@@ -179,7 +179,7 @@ module _ (p q : Pool) (i b m a x : ℕ) (s : SoundBut p i) (node : Node p i) (by
     only = λ c h. absurd h;
     all = λ c u t.
         ⊎-elim (λ v. unused (subst (Node p) (sym (parent-same c (inr v)) ∙ t) (parent-node p c v (s .fits c v .parent-below))))
-        (λ (z : c ≡ m). other-than i node (sym (A .own-parent) ∙ rw z at t)) (new c u);
+        (λ (z : c ≡ m). other-than i node (sym (A .own-parent) ∙ rw z at t)) (known-or-entered c u);
   }
 
   first-or : (c : ℕ) → Node p c → (firstChild q c ≡ firstChild p c) ⊎ (firstChild q c ≡ m)
@@ -197,8 +197,8 @@ module _ (p q : Pool) (i b m a x : ℕ) (s : SoundBut p i) (node : Node p i) (by
       ⊎-elim (λ (z : a ≡ 0). omega (arith, A .from-parent z))
       (λ na. ⊎-elim (λ z. absurd (na z)) (λ h. omega (arith, child-same i node (λ u v. na v), chain-starts (nextSibling p) (firstChild p i) (K .kids) (K .chain) a h)) after) (equal-or-not a 0)
 
-  old-fits : (c : ℕ) → InUse p c → FitsBut q m c
-  old-fits c u =
+  kept-fits : (c : ℕ) → InUse p c → FitsBut q m c
+  kept-fits c u =
       let f = s .fits c u in
       record {
         entry-below = omega (arith, entry-same c u, f .entry-below);
@@ -228,8 +228,8 @@ module _ (p q : Pool) (i b m a x : ℕ) (s : SoundBut p i) (node : Node p i) (by
     rooted = omega (arith, s .rooted, A .len);
     within = within;
     root = (value-same 0 (inl refl) ∙ s .root .0, sibling-same 0 (inl refl) (λ u v. v (sym u)) ∙ s .root .1, parent-same 0 (inl refl) ∙ s .root .2);
-    fits = λ c u. ⊎-elim (λ v. old-fits c v) (λ (z : c ≡ m). subst (λ (k : ℕ). FitsBut q m k) (sym z) own-fits) (new c u);
-    children = λ c h. ⊎-elim (λ (z : c ≡ 0). known c (inl z)) (λ u. ⊎-elim (λ v. known c (inr v)) (λ (z : c ≡ m). subst (λ (k : ℕ). Children q k) (sym z) alone) (new c u)) h;
+    fits = λ c u. ⊎-elim (λ v. kept-fits c v) (λ (z : c ≡ m). subst (λ (k : ℕ). FitsBut q m k) (sym z) own-fits) (known-or-entered c u);
+    children = λ c h. ⊎-elim (λ (z : c ≡ 0). known c (inl z)) (λ u. ⊎-elim (λ v. known c (inr v)) (λ (z : c ≡ m). subst (λ (k : ℕ). Children q k) (sym z) alone) (known-or-entered c u)) h;
   }
     where
       known : (c : ℕ) → Node p c → Children q c
@@ -347,22 +347,22 @@ module _ (p : Pool) (key : Key) (i d : ℕ) where
 
 -- ---- the mark
 module _ (p : Pool) (t v : ℕ) (s : SoundBut p t) (u : InUse p t) where
-  abbrev R : Pool
-  R = marked p t v
+  abbrev markedPool : Pool
+  markedPool = marked p t v
 
   inside : Inside p t
   inside = node-inside p t t s (inr u)
 
-  last-same : lastRecord R ≡ lastRecord p
+  last-same : lastRecord markedPool ≡ lastRecord p
   last-same = marked-last p t v (u .0)
 
-  use-back : (c : ℕ) → InUse R c → InUse p c
+  use-back : (c : ℕ) → InUse markedPool c → InUse p c
   use-back c h = (h .0, omega (arith, last-same))
 
-  use-stays : (c : ℕ) → InUse p c → InUse R c
+  use-stays : (c : ℕ) → InUse p c → InUse markedPool c
   use-stays c h = (h .0, omega (arith, last-same))
 
-  mark-fits : (c : ℕ) → InUse p c → Fits R c
+  mark-fits : (c : ℕ) → InUse p c → Fits markedPool c
   mark-fits c h =
       let f = s .fits c h in
       let word2 = marked-other p t v c 2 (omega arith) (λ e. omega arith) in
@@ -377,27 +377,27 @@ module _ (p : Pool) (t v : ℕ) (s : SoundBut p t) (u : InUse p t) where
         sibling-within = omega (arith, f .sibling-within);
         parent-below = omega (arith, f .parent-below);
         unvalued = λ b.
-            ⊎-elim (λ (e : c ≡ t). let z : entry R t < mark = rw e at b in absurd (omega (arith, marked-entry p t v inside)))
+            ⊎-elim (λ (e : c ≡ t). let z : entry markedPool t < mark = rw e at b in absurd (omega (arith, marked-entry p t v inside)))
             (λ ne.
             let word0 = marked-other p t v c 0 (omega arith) (λ e. absurd (ne (sym e))) in
             let g = f .unvalued (omega arith) in
             (marked-other p t v c 1 (omega arith) (λ e. absurd (ne (sym e))) ∙ g .0, omega (arith, g .1 ne))) (equal-or-not c t);
       }
 
-  mark-children : (c : ℕ) → Node p c → Children R c
+  mark-children : (c : ℕ) → Node p c → Children markedPool c
   mark-children c h =
       let k = s .children c h in
       record {
         kids = k .kids;
         chain =
             rw (marked-other p t v c 2 (omega arith) (λ e. omega arith))
-            (chain-same (nextSibling p) (nextSibling R) (firstChild p c) (k .kids) (k .chain) (λ x m. marked-other p t v x 3 (omega arith) (λ e. omega arith)));
-        rising = rises-same p R 0 (k .kids) (k .rising) (λ x m. marked-label p t v inside x);
+            (chain-same (nextSibling p) (nextSibling markedPool) (firstChild p c) (k .kids) (k .chain) (λ x m. marked-other p t v x 3 (omega arith) (λ e. omega arith)));
+        rising = rises-same p markedPool 0 (k .kids) (k .rising) (λ x m. marked-label p t v inside x);
         only = λ x m. let o = k .only x m in (use-stays x (o .0), marked-other p t v x 4 (omega arith) (λ e. omega arith) ∙ o .1);
         all = λ x w q. k .all x (use-back x w) (sym (marked-other p t v x 4 (omega arith) (λ e. omega arith)) ∙ q);
       }
 
-  pub mark-keeps : Sound R
+  pub mark-keeps : Sound markedPool
   mark-keeps =
       let l = length-marked p t v in
       let z : t ≡ 0 → ⊥ = λ e. omega (arith, u .0) in

@@ -94,8 +94,8 @@ module _ (p : Pool) (i a m : ℕ) where
 
 -- ---- a record marked
 module _ (p : Pool) (t v : ℕ) where
-  abbrev M : Pool
-  M = put p t 0 (label p t + mark)
+  abbrev entryMarked : Pool
+  entryMarked = put p t 0 (label p t + mark)
 
   pub length-marked : length (marked p t v) ≡ length p
   unfolding marked
@@ -104,20 +104,20 @@ module _ (p : Pool) (t v : ℕ) where
   pub marked-other : (c l : ℕ) → l < recordWords → (t ≡ c → 1 < l) → word (marked p t v) c l ≡ word p c l
   unfolding marked
   marked-other c l h ne =
-      word-put-other M t 1 v c l (omega arith) h (λ u w. omega (arith, ne u)) ∙ word-put-other p t 0 (label p t + mark) c l (omega arith) h (λ u w. omega (arith, ne u))
+      word-put-other entryMarked t 1 v c l (omega arith) h (λ u w. omega (arith, ne u)) ∙ word-put-other p t 0 (label p t + mark) c l (omega arith) h (λ u w. omega (arith, ne u))
 
   pub marked-last : 0 < t → lastRecord (marked p t v) ≡ lastRecord p
   unfolding marked
-  marked-last z = last-put-other M t 1 v (omega arith) (λ u w. omega arith) ∙ last-put-other p t 0 (label p t + mark) (omega arith) (λ u w. omega arith)
+  marked-last z = last-put-other entryMarked t 1 v (omega arith) (λ u w. omega arith) ∙ last-put-other p t 0 (label p t + mark) (omega arith) (λ u w. omega arith)
 
   module _ (inside : Inside p t) where
     pub marked-entry : entry (marked p t v) t ≡ label p t + mark
     unfolding marked
-    marked-entry = word-put-other M t 1 v t 0 (omega arith) (omega arith) (λ u w. omega arith) ∙ word-put-same p t 0 (label p t + mark) (omega arith)
+    marked-entry = word-put-other entryMarked t 1 v t 0 (omega arith) (omega arith) (λ u w. omega arith) ∙ word-put-same p t 0 (label p t + mark) (omega arith)
 
     pub marked-value : value (marked p t v) t ≡ v
     unfolding marked
-    marked-value = word-put-same M t 1 v (simp length-put (omega arith))
+    marked-value = word-put-same entryMarked t 1 v (simp length-put (omega arith))
 
     pub marked-label : (c : ℕ) → label (marked p t v) c ≡ label p c
     marked-label c =

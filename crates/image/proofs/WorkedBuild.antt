@@ -9,7 +9,7 @@ use Rattle.keymap.specs.Degrees.{unary, sequence}
 use Rattle.records.specs.Words.{Pool, word, lastRecord, usedCount}
 use Rattle.records.specs.SoundTest.{both, wordsFit, recordFits, isChild, chainRest, recordRest, passRest, rootFits, soundTest}
 use Rattle.image.specs.Buffers.{over}
-use Rattle.image.specs.LevelOrder.{siblingsFrom, childRecords, takenFrom, levelRecords, recordDegree, poolLabels, poolValues, poolWords}
+use Rattle.image.specs.LevelOrder.{siblingRecords, childRecords, takenFrom, levelRecords, recordDegree, poolLabels, poolValues, poolWords}
 use Rattle.image.specs.Build.{buffersFit, fitSays, buildSays, buildLabels, buildValues, buildWords, buildScratch}
 
 pub record Buffers : Type 0 where
@@ -78,5 +78,5 @@ done p b = record {
 }
 
 pub worked-builds : map (λ (l : Line). done (l .pool) (l .before)) lines ≡ lines
-unfolding lines done poolA poolB held refused over siblingsFrom childRecords takenFrom levelRecords recordDegree poolLabels poolValues poolWords buffersFit fitSays buildSays buildLabels buildValues buildWords buildScratch sumBelow number table pack unary sequence both wordsFit recordFits isChild chainRest recordRest passRest rootFits soundTest word lastRecord usedCount
+unfolding lines done poolA poolB held refused over siblingRecords childRecords takenFrom levelRecords recordDegree poolLabels poolValues poolWords buffersFit fitSays buildSays buildLabels buildValues buildWords buildScratch sumBelow number table pack unary sequence both wordsFit recordFits isChild chainRest recordRest passRest rootFits soundTest word lastRecord usedCount
 worked-builds = refl

@@ -1,11 +1,10 @@
--- Any list of calls on one pool, builds with any buffers among them: what each answers and what is left, by the pool's words; and the same by the map of the keys
--- that were accepted since the last reset. A build leaves the pool as it was.
+-- Any list of calls on one pool, builds with any buffers among them: what each answers, by the pool's words and by the map of the keys that were accepted since the last reset.
+-- A build leaves the pool as it was, so the pool and the map afterwards are those of the other calls.
 --
---     Call                  a call on the pool alone, or a build
---     callSays, callPool    what a call answers, and the pool that it leaves
---     runSays, runPool      the same of calls in turn
---     mapSays, mapAfter     what a call answers by the map, and the map that it leaves
---     mapRunSays, mapRun    the same of calls in turn
+--     Call               a call on the pool alone, or a build
+--     poolCalls          the calls on the pool alone
+--     runSays            what the calls answer in turn
+--     mapRunSays         what they answer by the map
 -- Assumes nothing.
 use Prim.Native.Nat.{ℕ}
 use mathlib.Core.List.{List, [], _∷_}
@@ -20,43 +19,19 @@ pub data Call : Type 0 where
   onPool : history.Call → Call
   build : List ℕ → List ℕ → List ℕ → List ℕ → Call  -- label entries, values, words, scratch
 
-abbrev pub Lent : Call → Type 0
-Lent (onPool c) = history.Lent c
-Lent (build ls vs ws qs) = Unit {0}
-
-abbrev pub AllLent : List Call → Type 0
-AllLent [] = Unit {0}
-AllLent (c ∷ cs) = Lent c × AllLent cs
-
-abbrev pub callSays : Pool → Call → List ℕ
-callSays p (onPool c) = history.callSays p c
-callSays p (build ls vs ws qs) = buildSays p ls vs ws qs
-
-abbrev pub callPool : Pool → Call → Pool
-callPool p (onPool c) = history.callPool p c
-callPool p (build ls vs ws qs) = p
+unfoldable pub poolCalls : List Call → List history.Call
+poolCalls [] = []
+poolCalls (onPool c ∷ cs) = c ∷ poolCalls cs
+poolCalls (build ls vs ws qs ∷ cs) = poolCalls cs
 
 unfoldable pub runSays : Pool → List Call → List (List ℕ)
 runSays p [] = []
-runSays p (c ∷ cs) = callSays p c ∷ runSays (callPool p c) cs
-
-unfoldable pub runPool : Pool → List Call → Pool
-runPool p [] = p
-runPool p (c ∷ cs) = runPool (callPool p c) cs
+runSays p (onPool c ∷ cs) = history.callSays p c ∷ runSays (history.callPool p c) cs
+runSays p (build ls vs ws qs ∷ cs) = buildSays p ls vs ws qs ∷ runSays p cs
 
 -- where there is room for `most` records
-abbrev pub mapSays : ℕ → Map → Call → List ℕ
-mapSays most m (onPool c) = history.mapSays most m c
-mapSays most m (build ls vs ws qs) = fitSays (length (prefixes m)) (length ls) (length vs) (length ws) (length qs)
-
-abbrev pub mapAfter : ℕ → Map → Call → Map
-mapAfter most m (onPool c) = history.mapAfter most m c
-mapAfter most m (build ls vs ws qs) = m
-
 unfoldable pub mapRunSays : ℕ → Map → List Call → List (List ℕ)
 mapRunSays most m [] = []
-mapRunSays most m (c ∷ cs) = mapSays most m c ∷ mapRunSays most (mapAfter most m c) cs
-
-unfoldable pub mapRun : ℕ → Map → List Call → Map
-mapRun most m [] = m
-mapRun most m (c ∷ cs) = mapRun most (mapAfter most m c) cs
+mapRunSays most m (onPool c ∷ cs) = history.mapSays most m c ∷ mapRunSays most (history.mapAfter most m c) cs
+mapRunSays most m (build ls vs ws qs ∷ cs) =
+    fitSays (length (prefixes m)) (length ls) (length vs) (length ws) (length qs) ∷ mapRunSays most m cs

@@ -16,12 +16,12 @@ use Rattle.keymap.specs.Degrees.{sequence}
 use Rattle.records.specs.Words.{Pool, entry, value, firstChild, nextSibling, usedCount}
 
 -- the siblings from record x on, within f steps
-unfoldable pub siblingsFrom : Pool → (f x : ℕ) → List ℕ
-siblingsFrom p zero x = []
-siblingsFrom p (suc f) x = cond (eqb x 0) [] (x ∷ siblingsFrom p f (nextSibling p x))
+unfoldable pub siblingRecords : Pool → (f x : ℕ) → List ℕ
+siblingRecords p zero x = []
+siblingRecords p (suc f) x = cond (eqb x 0) [] (x ∷ siblingRecords p f (nextSibling p x))
 
 unfoldable pub childRecords : Pool → ℕ → List ℕ
-childRecords p c = siblingsFrom p (usedCount p) (firstChild p c)
+childRecords p c = siblingRecords p (usedCount p) (firstChild p c)
 
 -- the first m that a queue of records gives: the first of it is taken, and its children are put behind the others
 unfoldable pub takenFrom : Pool → ℕ → List ℕ → List ℕ

@@ -32,20 +32,20 @@ use Rattle.records.proofs.Laws.Sound.{rises-distinct}
 use Rattle.records.proofs.Laws.Reached.{used-at-most, used-at-least, reached}
 use Rattle.image.specs.Buffers.{over}
 use Rattle.image.proofs.Laws.Buffers.{getD-over}
-use Rattle.image.specs.LevelOrder.{siblingsFrom, childRecords, takenFrom, levelRecords}
+use Rattle.image.specs.LevelOrder.{siblingRecords, childRecords, takenFrom, levelRecords}
 
 -- ---- chains
 
-siblings-end : (p : Pool) (f x : ℕ) → x ≡ 0 → siblingsFrom p f x ≡ []
-unfolding siblingsFrom
+siblings-end : (p : Pool) (f x : ℕ) → x ≡ 0 → siblingRecords p f x ≡ []
+unfolding siblingRecords
 siblings-end p zero x e = refl
 siblings-end p (suc f) x e = simp (eq-eqb x 0 e)
 
-siblings-next : (p : Pool) (f x : ℕ) → 0 < x → siblingsFrom p (suc f) x ≡ x ∷ siblingsFrom p f (nextSibling p x)
-unfolding siblingsFrom
+siblings-next : (p : Pool) (f x : ℕ) → 0 < x → siblingRecords p (suc f) x ≡ x ∷ siblingRecords p f (nextSibling p x)
+unfolding siblingRecords
 siblings-next p f x h = simp (ne-eqb x 0 (λ e. omega arith))
 
-siblings-chain : (p : Pool) (xs : List ℕ) (f x : ℕ) → Chain (nextSibling p) x xs → length xs ≤ f → siblingsFrom p f x ≡ xs
+siblings-chain : (p : Pool) (xs : List ℕ) (f x : ℕ) → Chain (nextSibling p) x xs → length xs ≤ f → siblingRecords p f x ≡ xs
 siblings-chain p [] f x h l = siblings-end p f x h
 siblings-chain p (y ∷ ys) zero x h l = absurd (omega arith)
 siblings-chain p (y ∷ ys) (suc f) x h l =

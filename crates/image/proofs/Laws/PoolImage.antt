@@ -8,19 +8,17 @@
 --     image-same       two sound pools that hold the same map give the same image
 --     build-means-image    so an accepted build of a sound pool writes the image of its map over the front of its buffers
 -- Assumes nothing.
-use Prim.Native.Nat.{ℕ, zero, suc, _+_, _*_, _≤_, _<_}
+use Prim.Native.Nat.{ℕ, zero, suc, _+_, _≤_}
 use mathlib.Core.Path.{_≡_, refl, sym, ap, ap₂, _∙_, subst}
 use mathlib.Core.Logic.{inl, inr}
 use mathlib.Core.Bool.{true}
 use mathlib.Core.List.{List, [], _∷_, _++_, map, map-map}
-use mathlib.Core.Option.{Option}
 use native.Mathlib.Omega.{arith}
 use lib.ListN.{length, length-append}
 use Rattle.keymap.specs.Key.{Key}
-use Rattle.keymap.specs.Label.{mark}
 use Rattle.keymap.specs.Bits.{pack}
 use Rattle.keymap.specs.Degrees.{sequence}
-use Rattle.keymap.specs.Forest.{Forest, empty, node, size, width, join}
+use Rattle.keymap.specs.Forest.{Forest, empty, node, width, join}
 use Rattle.keymap.specs.BreadthFirst.{Row, visit, rows, rowLabel, rowValue, rowDegree, forestBits, forestImage}
 use Rattle.keymap.specs.Image.{Image, image}
 use Rattle.keymap.proofs.Laws.Label.{labelEntry-back, valueWord-back}

@@ -7,14 +7,13 @@
 --     turn-next     it holds of one more
 --     turn-queue, turn-words    what it says when all are taken
 -- Assumes nothing.
-use Prim.Native.Nat.{ℕ, zero, suc, _+_, _*_, _/_, _^_, _≤_, _<_}
-use mathlib.Core.Path.{_≡_, refl, sym, ap, ap₂, _∙_, subst}
+use Prim.Native.Nat.{ℕ, zero, suc, _+_, _^_, _≤_, _<_}
+use mathlib.Core.Path.{_≡_, refl, sym, ap, _∙_}
 use mathlib.Core.List.{List, [], _∷_, _++_, map, map-append, flatMap}
 use native.Mathlib.Omega.{arith}
 use native.Mathlib.Numerals.{add-one}
 use lib.ListN.{length, getD, take, replicate, length-append, length-map, length-replicate}
 use lib.Seq.{sets, take-suc, take-all, length-take-le}
-use Rattle.keymap.specs.Limits.{wordBits}
 use Rattle.keymap.specs.Bits.{wordsFor, pack}
 use Rattle.keymap.specs.Degrees.{total, unary, sequence}
 use Rattle.keymap.specs.Image.{bitsFor}

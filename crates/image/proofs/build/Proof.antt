@@ -1,10 +1,8 @@
 -- `image::build` meets its contract: at each return the tests that led there say which case of `buildSays` holds, and where nothing refuses the two writers
 -- leave what is to be left. Assumes nothing.
-use Prim.Native.Nat.{ℕ, _≤_}
-use mathlib.Core.Path.{_≡_, refl, sym, ap, _∙_}
+use Prim.Native.Nat.{_≤_}
+use mathlib.Core.Path.{_≡_, refl, sym, _∙_}
 use mathlib.Core.Bool.{true, false}
-use mathlib.Core.List.{[], _∷_}
-use native.Mathlib.Omega.{arith}
 use lib.ListN.{length}
 use borrow.Author.Tests.{not-true, not-false}
 use borrow.Author.Needs.{needs}
@@ -14,7 +12,6 @@ use Rattle.records.specs.Sound.{Sound}
 use Rattle.records.specs.Words.{usedCount}
 use Rattle.records.proofs.Laws.SoundTest.{test-sound}
 use Rattle.image.specs.declared.answers.Built.{Built}
-use Rattle.image.specs.Build.{buffersFit}
 use Rattle.image.proofs.Laws.Build.{fit-all, says-small, says-unsound, says-short, says-done, build-refused, build-done, tell-levels, told-labels, told-values}
 use Rattle.image.proofs.build.Statement.{statement}
 use Rattle.image.proofs.build.Tie as tie

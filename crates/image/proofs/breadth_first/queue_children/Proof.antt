@@ -1,7 +1,7 @@
 -- `image::breadth_first::queue_children` meets its contract. The invariant is `Queueing`: what is left of the chain is what is left of the children.
 -- The measure is how many are left. Assumes nothing.
 use Prim.Native.Nat.{ℕ, _-_}
-use mathlib.Core.Path.{_≡_, sym, subst}
+use mathlib.Core.Path.{sym, subst}
 use native.Mathlib.Omega.{arith}
 use lib.ListN.{length}
 use borrow.Author.Needs.{needs}

@@ -1,5 +1,5 @@
 -- `image::breadth_first::record_at` meets its contract: what is not the first is behind the root. Assumes nothing.
-use mathlib.Core.Path.{_≡_, refl, ap}
+use mathlib.Core.Path.{_≡_, ap}
 use Prim.Native.Nat.{ℕ, suc, _-_}
 use mathlib.Core.List.{_∷_}
 use native.Mathlib.Omega.{arith}

@@ -10,7 +10,7 @@ pub mod Meaning
 pub mod Walk
 pub mod Buffers
 pub mod LevelOrder
-pub mod Spelling
+pub mod HeldBits
 pub mod Turns
 pub mod Queueing
 pub mod Build

@@ -5,6 +5,7 @@
 --     poolLabels       the label entry of each
 --     poolValues       the value of each
 --     poolWords        the words of the root's degree and of theirs
+--     poolImage        the three as an image
 -- Assumes nothing.
 use Prim.Native.Nat.{ℕ, zero, suc}
 use mathlib.Core.Bool.{cond}
@@ -13,6 +14,7 @@ use lib.ListN.{length}
 use lib.Dec.{eqb}
 use Rattle.keymap.specs.Bits.{pack}
 use Rattle.keymap.specs.Degrees.{sequence}
+use Rattle.keymap.specs.Image.{Image}
 use Rattle.records.specs.Words.{Pool, entry, value, firstChild, nextSibling, usedCount}
 
 -- the siblings from record x on, within f steps
@@ -43,3 +45,6 @@ poolValues p = map (value p) (levelRecords p)
 
 unfoldable pub poolWords : Pool → List ℕ
 poolWords p = pack (sequence (map (recordDegree p) (0 ∷ levelRecords p)))
+
+abbrev pub poolImage : Pool → Image
+poolImage p = record { labels = poolLabels p; values = poolValues p; words = poolWords p }

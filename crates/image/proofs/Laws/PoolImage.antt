@@ -5,6 +5,7 @@
 --     hangs-pool       the pool's forest hangs below the root
 --     rows-level       the rows of the level order are the forest's
 --     image-pool       labels, values and words are those of the image of the pool's map
+--     image-of-map, image-back    so they are accepted, and stand for that map
 --     image-same       two sound pools that hold the same map give the same image
 --     build-means-image    so an accepted build of a sound pool writes the image of its map over the front of its buffers
 -- Assumes nothing.
@@ -21,18 +22,22 @@ use Rattle.keymap.specs.Degrees.{sequence}
 use Rattle.keymap.specs.Forest.{Forest, empty, node, width, join}
 use Rattle.keymap.specs.BreadthFirst.{Row, visit, rows, rowLabel, rowValue, rowDegree, forestBits, forestImage}
 use Rattle.keymap.specs.Image.{Image, image}
+use Rattle.keymap.specs.Decode.{imageMap}
 use Rattle.keymap.proofs.Laws.Label.{labelEntry-back, valueWord-back}
 use Rattle.keymap.proofs.Laws.LevelOrder.{image-listForest}
-use Rattle.records.specs.Words.{Pool, entry, label, value, valueOf, lastRecord, usedCount, InUse, Node}
+use Rattle.keymap.proofs.Laws.Image.{imageMap-image}
+use Rattle.records.specs.Words.{Pool, entry, label, value, valueOf, lastRecord, usedCount, InUse, Node, Bounded}
 use Rattle.records.specs.Sound.{In, Sound}
 use Rattle.records.specs.Spelling.{Spells}
 use Rattle.records.specs.Meaning.{forestBelow, poolForest, poolMap}
 use Rattle.records.proofs.Laws.Spelling.{spells-child, spells-most}
-use Rattle.records.proofs.Laws.Meaning.{forestOf, below-children, forest-orderly, map-forest, count-forest}
+use Rattle.records.proofs.Laws.Meaning.{forestOf, below-children, forest-orderly, map-forest, map-catalogue, count-prefixes, count-forest}
+use Rattle.records.proofs.Laws.Words.{count-last}
 use Rattle.pool.specs.Answers.{accepted}
 use Rattle.image.specs.Buffers.{over}
 use Rattle.image.specs.Build.{buildSays, buildLabels, buildValues, buildWords}
-use Rattle.image.specs.LevelOrder.{childRecords, takenFrom, levelRecords, recordDegree, poolLabels, poolValues, poolWords}
+use Rattle.image.specs.LevelOrder.{childRecords, takenFrom, levelRecords, recordDegree, poolLabels, poolValues, poolWords, poolImage}
+use Rattle.image.specs.Accept.{OfMap}
 use Rattle.image.proofs.Laws.LevelOrder.{child-records, child-only, level-used}
 
 abbrev pub Hangs : Pool → Forest → List ℕ → Type 0
@@ -128,13 +133,26 @@ module _ (p : Pool) where
         ap (λ (ds : List ℕ). pack (sequence ds))
         (ap₂ (λ (d : ℕ) (ds : List ℕ). d ∷ ds) (sym (hangs-width (poolForest p) (childRecords p 0) hangs-pool)) (level-say rowDegree (recordDegree p) (λ c u. refl)))
 
-    pub image-pool : record { labels = poolLabels p; values = poolValues p; words = poolWords p } ≡ image (poolMap p)
+    pub image-pool : poolImage p ≡ image (poolMap p)
     unfolding forestImage
     image-pool =
         let l = labels-pool in
         let v = values-pool in
         let w = words-pool in
         (λ i. record { labels = l i; values = v i; words = w i }) ∙ sym (ap image (map-forest p) ∙ image-listForest (poolForest p) (forest-orderly p s))
+
+module _ (p : Pool) (s : Sound p) (b : Bounded p) where
+  -- what is written is accepted, and stands for the map
+  pub image-of-map : OfMap (poolImage p)
+  image-of-map = record {
+    map = poolMap p;
+    catalogue = map-catalogue p s b;
+    few = omega (arith, count-prefixes p s, count-last p, s .within);
+    whole = sym (image-pool p s);
+  }
+
+  pub image-back : imageMap (poolImage p) ≡ poolMap p
+  image-back = ap imageMap (image-pool p s) ∙ imageMap-image (poolMap p) (map-catalogue p s b)
 
 pub image-same : (p q : Pool) → Sound p → Sound q → poolMap p ≡ poolMap q → (poolLabels p ≡ poolLabels q) × (poolValues p ≡ poolValues q) × (poolWords p ≡ poolWords q)
 image-same p q s t e =

@@ -1,4 +1,4 @@
--- The turns of the loop that takes the nodes: after k of them the queue's front is what they put into it, and the words spell their degrees.
+-- The turns of the loop that takes the nodes: after k of them the queue's front is what they put into it, and the words hold the bits of their degrees.
 -- A node's children go behind that front, its ones and its zero behind those bits.
 --
 --     Turn          what holds when k are taken
@@ -27,7 +27,7 @@ use Rattle.image.specs.Buffers.{over, withRun}
 use Rattle.image.specs.LevelOrder.{childRecords, levelRecords, recordDegree, poolWords}
 use Rattle.image.specs.Build.{CanQueue, Levels}
 use Rattle.image.proofs.Laws.Buffers.{length-over, over-none, over-over, over-sets, withOne-over, withRun-over}
-use Rattle.image.proofs.Laws.Spelling.{Spells, spells-none, spells-one, spells-zero, spells-run, spells-pack, sequence-more}
+use Rattle.image.proofs.Laws.HeldBits.{HoldsBits, held-none, held-one, held-zero, held-run, held-pack, sequence-more}
 use Rattle.image.proofs.Laws.LevelOrder.{queued, child-chain, level-count, node-at, queued-front, queued-next, queued-node, queued-all}
 
 -- ---- the bits of the first k
@@ -72,7 +72,7 @@ pub record Turn (p : Pool) (n : ℕ) (words₀ queue₀ : List ℕ) (words queue
   pub at-is : at ≡ length (bitsTo p k)
   pub queue-is : queue ≡ over (queued p k) queue₀
   pub words-is : words ≡ over front words₀
-  pub spells : Spells (wordsFor (bitsFor n)) front (bitsTo p k)
+  pub held : HoldsBits (wordsFor (bitsFor n)) front (bitsTo p k)
 
 module _ (p : Pool) (n : ℕ) (words₀ queue₀ : List ℕ) (h : Levels p n words₀ queue₀) where
   -- the words at the start: cleared, and the first bit set
@@ -94,7 +94,7 @@ module _ (p : Pool) (n : ℕ) (words₀ queue₀ : List ℕ) (h : Levels p n wor
           at-is = refl;
           queue-is = sym (over-none queue₀);
           words-is = first-words ∙ sym (ap (over (withOne zeros 0)) first-words ∙ over-over (withOne zeros 0) (withOne zeros 0) entry₀ refl);
-          spells = spells-zero w (withOne zeros 0) (1 ∷ []) (spells-one w zeros [] (spells-none w) 0 refl (omega arith));
+          held = held-zero w (withOne zeros 0) (1 ∷ []) (held-one w zeros [] (held-none w) 0 refl (omega arith));
         }
 
     length-first : length (withOne zeros 0) ≡ wordsFor (bitsFor n)
@@ -138,8 +138,8 @@ module _ (p : Pool) (n : ℕ) (words₀ queue₀ : List ℕ) (h : Levels p n wor
               tail-is = omega (arith, ed, t .tail-is, ap length turn-queued, length-append (queued p k) kids);
               at-is = omega (arith, ed, t .at-is, ap length bits, length-append (bitsTo p k ++ replicate (length kids) 1) (0 ∷ []), length-append (bitsTo p k) (replicate (length kids) 1), length-replicate {A = ℕ} (length kids) 1);
               queue-is = eq ∙ ap (λ (xs : List ℕ). sets xs tail kids) (t .queue-is) ∙ over-sets kids (queued p k) queue₀ tail (t .tail-is) (omega (arith, turn-room, h .queue-fits)) ∙ ap (λ (xs : List ℕ). over xs queue₀) (sym turn-queued);
-              words-is = ew ∙ ap (λ (xs : List ℕ). withRun xs at (length kids)) (t .words-is) ∙ withRun-over (length kids) (t .front) words₀ at (omega (arith, t .spells .long, turn-place));
-              spells = rw bits (spells-zero w _ _ (spells-run (length kids) w (t .front) (bitsTo p k) at (t .spells) (t .at-is) (omega (arith, turn-place))));
+              words-is = ew ∙ ap (λ (xs : List ℕ). withRun xs at (length kids)) (t .words-is) ∙ withRun-over (length kids) (t .front) words₀ at (omega (arith, t .held .long, turn-place));
+              held = rw bits (held-zero w _ _ (held-run (length kids) w (t .front) (bitsTo p k) at (t .held) (t .at-is) (omega (arith, turn-place))));
             }
 
     -- all are taken
@@ -163,7 +163,7 @@ module _ (p : Pool) (n : ℕ) (words₀ queue₀ : List ℕ) (h : Levels p n wor
       turn-over =
           t .words-is
           ∙ ap (λ (xs : List ℕ). over xs words₀)
-          (spells-pack (wordsFor (bitsFor n)) (t .front) (bitsTo p k) (t .spells) (ap wordsFor (sym turn-long)) (unfold bitsTo in sequence-small (degreesTo p k)) ∙ ap pack turn-bits)
+          (held-pack (wordsFor (bitsFor n)) (t .front) (bitsTo p k) (t .held) (ap wordsFor (sym turn-long)) (unfold bitsTo in sequence-small (degreesTo p k)) ∙ ap pack turn-bits)
 
       pub turn-words : (entry₀ : List ℕ) → words₀ ≡ withOne (over (replicate (wordsFor (bitsFor n)) 0) entry₀) 0 → words ≡ over (poolWords p) entry₀
       turn-words entry₀ e =

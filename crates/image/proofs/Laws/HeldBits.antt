@@ -1,10 +1,10 @@
--- Words that spell bits from the front: a bit that is set right behind the ones spelled spells a one more, and a zero more is spelled by leaving it be,
--- because every bit beyond those spelled is 0. When all words are spelled they are the pack of the bits.
+-- Words filled with bits from the front: setting the bit right behind those held adds a one, and leaving it be adds a zero, because every bit beyond those held is 0.
+-- When the bits fill all the words, these are the pack of the bits.
 --
---     Spells            the words' bits are these, and 0 beyond them
---     spells-none       words of zeros spell nothing
---     spells-one, spells-zero, spells-run    one bit more, or a run of ones
---     spells-pack       words that are spelled whole are the pack
+--     HoldsBits         the words' bits are these, and 0 beyond them
+--     held-none         words of zeros hold no bit yet
+--     held-one, held-zero, held-run    one bit more, or a run of ones
+--     held-pack         words that the bits fill are their pack
 --     sequence-more     the level-order sequence of one degree more
 -- Assumes nothing.
 use Prim.Native.Nat.{ℕ, zero, suc, _+_, _*_, _/_, _%_, _^_, _≤_, _<_}
@@ -25,8 +25,8 @@ use Rattle.louds.proofs.Laws.Put.{length-withOne, bit-withOne-same, bit-withOne
 use Rattle.records.proofs.Laws.Distinct.{equal-or-not, below-or-not}
 use Rattle.image.specs.Buffers.{withRun}
 
--- w words that spell the bits xs
-pub record Spells (w : ℕ) (words xs : List ℕ) : Type 0 where
+-- the bits of w words are xs
+pub record HoldsBits (w : ℕ) (words xs : List ℕ) : Type 0 where
   pub long : length words ≡ w
   pub bits : (i : ℕ) → bit words i ≡ getD xs i 0
   pub wide : (j : ℕ) → getD words j 0 < 2 ^ wordBits
@@ -36,9 +36,9 @@ zeros-at zero j = refl
 zeros-at (suc w) zero = refl
 zeros-at (suc w) (suc j) = zeros-at w j
 
-pub spells-none : (w : ℕ) → Spells w (replicate w 0) []
+pub held-none : (w : ℕ) → HoldsBits w (replicate w 0) []
 unfolding bit
-spells-none w = record {
+held-none w = record {
   long = length-replicate {A = ℕ} w 0;
   bits = λ i. ap (λ (x : ℕ). x / 2 ^ (i % wordBits) % 2) (zeros-at w (i / wordBits)) ∙ ap (λ (x : ℕ). x % 2) (zero-div (2 ^ (i % wordBits)));
   wide = λ j. rw (zeros-at w j) (pow-pos wordBits);
@@ -53,15 +53,15 @@ getD-other xs a i ne =
 getD-last : (xs : List ℕ) (a i : ℕ) → i ≡ length xs → getD (xs ++ (a ∷ [])) i 0 ≡ a
 getD-last xs a i e = ap (λ (k : ℕ). getD (xs ++ (a ∷ [])) k 0) e ∙ getD-append-seam xs a [] 0
 
-module _ (w : ℕ) (words xs : List ℕ) (s : Spells w words xs) where
-  pub spells-zero : Spells w words (xs ++ (0 ∷ []))
-  spells-zero = record { long = s .long; bits = λ i. s .bits i ∙ ⊎-elim (same i) (λ ne. sym (getD-other xs 0 i ne)) (equal-or-not i (length xs)); wide = s .wide }
+module _ (w : ℕ) (words xs : List ℕ) (s : HoldsBits w words xs) where
+  pub held-zero : HoldsBits w words (xs ++ (0 ∷ []))
+  held-zero = record { long = s .long; bits = λ i. s .bits i ∙ ⊎-elim (same i) (λ ne. sym (getD-other xs 0 i ne)) (equal-or-not i (length xs)); wide = s .wide }
     where
       same : (i : ℕ) → i ≡ length xs → getD xs i 0 ≡ getD (xs ++ (0 ∷ [])) i 0
       same i e = List·getD-eq-default xs 0 (omega arith) ∙ sym (getD-last xs 0 i e)
 
-  pub spells-one : (p : ℕ) → p ≡ length xs → p < w * wordBits → Spells w (withOne words p) (xs ++ (1 ∷ []))
-  spells-one p e h = record {
+  pub held-one : (p : ℕ) → p ≡ length xs → p < w * wordBits → HoldsBits w (withOne words p) (xs ++ (1 ∷ []))
+  held-one p e h = record {
     long = length-withOne words p ∙ s .long;
     bits = λ i. ⊎-elim (same i) (λ (ne : i ≡ p → ⊥). bit-withOne-other words p i ne ∙ s .bits i ∙ sym (getD-other xs 1 i (λ q. ne (q ∙ sym e)))) (equal-or-not i p);
     wide = withOne-lt words p (s .wide);
@@ -73,15 +73,15 @@ module _ (w : ℕ) (words xs : List ℕ) (s : Spells w words xs) where
       same : (i : ℕ) → i ≡ p → bit (withOne words p) i ≡ getD (xs ++ (1 ∷ [])) i 0
       same i q = ap (bit (withOne words p)) q ∙ bit-withOne-same words p inside ∙ sym (getD-last xs 1 i (q ∙ e))
 
-pub spells-run : (d w : ℕ) (words xs : List ℕ) (p : ℕ) → Spells w words xs → p ≡ length xs → p + d ≤ w * wordBits → Spells w (withRun words p d) (xs ++ replicate d 1)
+pub held-run : (d w : ℕ) (words xs : List ℕ) (p : ℕ) → HoldsBits w words xs → p ≡ length xs → p + d ≤ w * wordBits → HoldsBits w (withRun words p d) (xs ++ replicate d 1)
 unfolding withRun
-spells-run zero w words xs p s e h = rw (append-nil xs) s
-spells-run (suc d) w words xs p s e h =
+held-run zero w words xs p s e h = rw (append-nil xs) s
+held-run (suc d) w words xs p s e h =
     rw append-snoc at
-    (spells-run d w (withOne words p) (xs ++ (1 ∷ [])) (suc p) (spells-one w words xs s p e (omega arith)) (omega (arith, length-append xs (1 ∷ []))) (omega arith))
+    (held-run d w (withOne words p) (xs ++ (1 ∷ [])) (suc p) (held-one w words xs s p e (omega arith)) (omega (arith, length-append xs (1 ∷ []))) (omega arith))
 
-pub spells-pack : (w : ℕ) (words xs : List ℕ) → Spells w words xs → w ≡ wordsFor (length xs) → ((i : ℕ) → getD xs i 0 ≤ 1) → words ≡ pack xs
-spells-pack w words xs s e small =
+pub held-pack : (w : ℕ) (words xs : List ℕ) → HoldsBits w words xs → w ≡ wordsFor (length xs) → ((i : ℕ) → getD xs i 0 ≤ 1) → words ≡ pack xs
+held-pack w words xs s e small =
     words-ext words (pack xs) (s .long ∙ e ∙ sym (length-pack xs)) (s .wide) (pack-lt xs small) (λ i. s .bits i ∙ sym (bit-pack xs small i))
 
 -- ---- degrees

@@ -68,12 +68,16 @@ def is_sound(pool):
     return True
 
 
-def pool_map(pool):
+def record_paths(pool):
     """A record spells its parent's path and its own label, and parents are numbered below."""
     paths = [b""]
     for c in range(1, pool[0] + 1):
         paths.append(paths[pool[5 * c + 4]] + bytes([pool[5 * c] % 256]))
-    return {paths[c]: pool[5 * c + 1] for c in range(1, pool[0] + 1) if pool[5 * c] >= 256}
+    return paths
+
+
+def pool_map(pool):
+    return {path: pool[5 * c + 1] for c, path in enumerate(record_paths(pool)) if c and pool[5 * c] >= 256}
 
 
 def prefixes(keys):
@@ -196,6 +200,7 @@ class Book:
         self.labels = [0] * LENT
         self.values = [0] * LENT
         self.words = [0] * 130
+        self.scratch = [0] * MOST
         self.lengths = [0, 0, 0]
         self.place = 1
         self.cursor = (0, None, None)
@@ -274,6 +279,8 @@ class Book:
             return
         self.image(pool_map(self.lent()))
         assert self.lengths[0] == n
+        paths = record_paths(self.lent())
+        self.scratch[:n] = sorted(range(1, n + 1), key=lambda c: (len(paths[c]), paths[c]))
         self.case(letter, 0, data, n)
 
     def image(self, entries):
@@ -291,6 +298,13 @@ class Book:
     def show(self):
         labels, values, words = self.slices()
         self.case("i", 0, b"", "labels", *labels, "values", *values, "words", *words)
+
+    def read_buffers(self, at, count):
+        """What stands in the memory of an image, lent or not."""
+        words = []
+        for name in ("labels", "values", "words", "scratch"):
+            words += [name] + getattr(self, name)[at:at + count]
+        self.case("h", at, bytes([count]), *words)
 
     # images
 
@@ -538,6 +552,8 @@ def lengths_of_pools(book):
     book.build((4096, 4096, 128, 4096))
     book.build((4096, 4096, 129, 4095))
     book.build((4096, 4096, 129, 4096))
+    book.read_buffers(4090, 10)
+    book.read_buffers(125, 5)
     for length in (0, 1, 4095, 4096, 4097):
         book.exact_long(length)
     # the same slices ended otherwise: 4,097 nodes, which no image has, then 4,095
@@ -575,7 +591,7 @@ def capacity_of_three(book):
         book.push(b"a", 0)
         book.read(0, 30)
         book.build()
-        book.show()
+        book.read_buffers(0, 5)
     book.title("B of the document: its root has first child 2")
     book.reset(20)
     book.push(b"b", 3)
@@ -585,7 +601,9 @@ def capacity_of_three(book):
     book.build((3, 2, 1, 3))
     book.build((3, 3, 0, 3))
     book.build((3, 3, 1, 2))
+    book.read_buffers(0, 5)
     book.build((3, 3, 1, 3))
+    book.read_buffers(0, 5)
     book.show()
 
 
@@ -601,8 +619,7 @@ def judged(book, words, must=None):
     book.push(b"b", 3)
     book.read(0, min(len(words) + 1, 80))
     book.build()
-    if is_sound(book.lent()):
-        book.show()
+    book.read_buffers(0, 10)
 
 
 def base_pool(room):

@@ -1,0 +1,25 @@
+// What is kept from case to case, as numbers in a lent slice.
+
+// How many words of the memory are the pool.
+pub const POOL: usize = 0;
+// How many labels, values and words are lent as the image.
+pub const LABELS: usize = 1;
+
+pub const VALUES: usize = 2;
+
+pub const WORDS: usize = 3;
+
+pub const SIZE: usize = 4;
+
+pub fn kept(state: &[u32], which: usize) -> u32 {
+    if which < state.len() {
+        return state[which];
+    }
+    0
+}
+
+pub fn keep(state: &mut [u32], which: usize, n: u32) {
+    if which < state.len() {
+        state[which] = n;
+    }
+}

@@ -7,11 +7,12 @@
 --     mapSays, mapAfter     what a call answers by the map, and the map that it leaves
 --     mapRunSays, mapRun    the same of calls in turn
 -- Assumes nothing.
-use Prim.Native.Nat.{ℕ}
+use Prim.Native.Nat.{ℕ, _<_}
 use mathlib.Core.Bool.{cond}
 use mathlib.Core.List.{List, [], _∷_}
 use lib.ListN.{length}
 use lib.Dec.{leb, eqb}
+use Rattle.keymap.specs.Limits.{valueLimit}
 use Rattle.keymap.specs.Key.{Key, Bytes}
 use Rattle.keymap.specs.Map.{Map, insert}
 use Rattle.keymap.specs.Prefixes.{prefixes}
@@ -27,10 +28,10 @@ pub data Call : Type 0 where
   push : Key → ℕ → Call
   useCount : Call
 
--- a lent key is of bytes
+-- a lent key is of bytes, and a value of 32 bits
 abbrev pub Lent : Call → Type 0
 Lent reset = Unit {0}
-Lent (push k v) = Bytes k
+Lent (push k v) = Bytes k × (v < valueLimit)
 Lent useCount = Unit {0}
 
 abbrev pub AllLent : List Call → Type 0

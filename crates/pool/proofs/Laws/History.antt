@@ -2,21 +2,25 @@
 --
 --     call-says, call-map, call-sound, call-length    one call
 --     run-says, run-map, run-sound                    any calls on a sound pool, also one that was not reset here
---     reset-run                                       any calls after an accepted reset: the pool is sound, holds the map of the keys accepted since the last reset,
+--     reset-run-sound, -map, -says                    any calls after an accepted reset: the pool is sound, holds the map of the keys accepted since the last reset,
 --                                                     and every answer is told by that map and the capacity
+--     reset-run-within                                that map is a catalogue with no more distinct prefixes than the capacity
 --     reset-run-count                                 and its use count is the number of that map's distinct nonempty prefixes
 -- Assumes nothing.
-use Prim.Native.Nat.{ℕ, _≤_}
+use Prim.Native.Nat.{ℕ, _≤_, _<_}
 use mathlib.Core.Path.{_≡_, refl, sym, _∙_, ap}
 use mathlib.Core.Bool.{Bool, true, false, cond}
 use mathlib.Core.List.{List, [], _∷_}
+use native.Mathlib.Omega.{arith}
 use lib.ListN.{length}
 use lib.Dec.{leb, eqb}
-use borrow.Author.Tests.{eqb-false}
+use borrow.Author.Tests.{eqb-false, leb-true}
+use Rattle.keymap.specs.Limits.{valueLimit}
 use Rattle.keymap.specs.Key.{Key, Bytes}
-use Rattle.keymap.specs.Map.{Map, insert}
-use Rattle.keymap.specs.Prefixes.{prefixes}
+use Rattle.keymap.specs.Map.{Map, Catalogue, insert}
+use Rattle.keymap.specs.Prefixes.{deepest, levels, prefixes}
 use Rattle.keymap.specs.Refusals.{Refusal, refusalNumber}
+use Rattle.keymap.proofs.Laws.Map.{insert-catalogue}
 use Rattle.records.specs.Words.{Pool, recordWords, usedCount, capacity}
 use Rattle.records.specs.Sound.{Sound}
 use Rattle.records.specs.Meaning.{poolMap}
@@ -56,17 +60,17 @@ module _ (p : Pool) (s : Sound p) where
 
   pub call-map : (c : Call) → Lent c → poolMap (callPool p c) ≡ mapAfter (capacity p) (poolMap p) c
   call-map Call.reset l = reset-means-empty p (s .rooted)
-  call-map (Call.push k v) l = push-map k v l
+  call-map (Call.push k v) l = push-map k v (l .0)
   call-map Call.useCount l = refl
 
   pub call-sound : (c : Call) → Lent c → Sound (callPool p c)
   call-sound Call.reset l = reset-sound p (s .rooted)
-  call-sound (Call.push k v) l = push-keeps p k v l s
+  call-sound (Call.push k v) l = push-keeps p k v (l .0) s
   call-sound Call.useCount l = s
 
   pub call-length : (c : Call) → Lent c → length (callPool p c) ≡ length p
   call-length Call.reset l = length-reset p
-  call-length (Call.push k v) l = length-push p k v l
+  call-length (Call.push k v) l = length-push p k v (l .0)
   call-length Call.useCount l = refl
 
   pub call-capacity : (c : Call) → Lent c → capacity (callPool p c) ≡ capacity p
@@ -95,6 +99,41 @@ run-map (c ∷ cs) p s l =
     let n = call-capacity p s c (l .0) in
     run-map cs (callPool p c) (call-sound p s c (l .0)) (l .1) ∙ (λ j. mapRun (n j) (m j) cs)
 
+-- ---- what the map of a history is
+
+empty-catalogue : Catalogue []
+empty-catalogue = record { rising = tt; proper = tt }
+
+empty-prefixes : length (prefixes []) ≡ 0
+unfolding prefixes levels deepest
+empty-prefixes = refl
+
+nonempty-key : (k : Key) → eqb (length k) 0 ≡ false → ¬ (k ≡ [])
+nonempty-key k e s = eqb-false (length k) 0 e (ap length s)
+
+-- a call leaves a catalogue, with no more distinct prefixes than there is room for
+module _ (most : ℕ) (m : Map) (c : Catalogue m) (few : length (prefixes m) ≤ most) where
+  push-within : (k : Key) (v : ℕ) → Bytes k × (v < valueLimit)
+      → Catalogue (mapAfter most m (Call.push k v)) × (length (prefixes (mapAfter most m (Call.push k v))) ≤ most)
+  push-within k v l = go (eqb (length k) 0) refl (leb (length (prefixes (insert k v m))) most) refl
+    where
+      go : (t : Bool) → eqb (length k) 0 ≡ t → (u : Bool) → leb (length (prefixes (insert k v m))) most ≡ u
+          → Catalogue (mapAfter most m (Call.push k v)) × (length (prefixes (mapAfter most m (Call.push k v))) ≤ most)
+      go true e u f = rw e (c, few)
+      go false e true f = rw (e, f) (insert-catalogue k v m (nonempty-key k e) (l .0) (l .1) c, leb-true _ _ f)
+      go false e false f = rw (e, f) (c, few)
+
+  pub call-within : (d : Call) → Lent d → Catalogue (mapAfter most m d) × (length (prefixes (mapAfter most m d)) ≤ most)
+  call-within Call.reset l = (empty-catalogue, omega (arith, empty-prefixes))
+  call-within (Call.push k v) l = push-within k v l
+  call-within Call.useCount l = (c, few)
+
+pub run-within : (most : ℕ) (cs : List Call) (m : Map) → Catalogue m → length (prefixes m) ≤ most → AllLent cs
+    → Catalogue (mapRun most m cs) × (length (prefixes (mapRun most m cs)) ≤ most)
+unfolding mapRun
+run-within most [] m c few l = (c, few)
+run-within most (d ∷ cs) m c few l = let (c-after, few-after) = call-within most m c few d (l .0) in run-within most cs (mapAfter most m d) c-after few-after (l .1)
+
 module _ (p : Pool) (h : recordWords ≤ length p) (cs : List Call) (lent : AllLent cs) where
   pub reset-run-sound : Sound (runPool (resetPool p) cs)
   reset-run-sound = run-sound cs (resetPool p) (reset-sound p h) lent
@@ -110,3 +149,7 @@ module _ (p : Pool) (h : recordWords ≤ length p) (cs : List Call) (lent : AllL
 
   pub reset-run-count : usedCount (runPool (resetPool p) cs) ≡ length (prefixes (mapRun (capacity p) [] cs))
   reset-run-count = sym (count-prefixes (runPool (resetPool p) cs) reset-run-sound) ∙ ap (λ (m : Map). length (prefixes m)) reset-run-map
+
+  -- and it is a catalogue that the pool has room for
+  pub reset-run-within : Catalogue (mapRun (capacity p) [] cs) × (length (prefixes (mapRun (capacity p) [] cs)) ≤ capacity p)
+  reset-run-within = run-within (capacity p) cs [] empty-catalogue (omega (arith, empty-prefixes)) lent

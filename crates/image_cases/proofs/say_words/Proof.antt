@@ -1,0 +1,59 @@
+-- `image_cases::say_words` is safe and ends: the index stays within the slice, and the measure is what is left of it. Assumes nothing.
+use Prim.Native.Nat.{_≤_, _-_}
+use lib.ListN.{length}
+use borrow.Author.Needs.{needs}
+use Rattle.image_cases.proofs.say_words.Statement.{statement}
+use Rattle.image_cases.proofs.say_words.Tie as tie
+
+abbrev Inv-loop : tie.InvT-loop
+Inv-loop words i₀ i = i ≤ length words
+
+abbrev μ-loop : tie.MeasureT-loop
+μ-loop words i₀ i = length words - i
+
+slice-aggregate-say : tie.Need-slice-aggregate-say Inv-loop μ-loop
+slice-aggregate-say c = search needs
+
+say-requires : tie.Need-say-requires Inv-loop μ-loop
+say-requires c κs = search needs
+
+loop-holds : tie.Need-loop-holds Inv-loop μ-loop
+loop-holds c = search needs
+
+mul-say-number : tie.Need-mul-say-number Inv-loop μ-loop
+mul-say-number c = search needs
+
+shared-slice-read-say-number : tie.Need-shared-slice-read-say-number Inv-loop μ-loop
+shared-slice-read-say-number c = search needs
+
+say-number-requires : tie.Need-say-number-requires Inv-loop μ-loop
+say-number-requires c κs = search needs
+
+add-i : tie.Need-add-i Inv-loop μ-loop
+add-i c = search needs
+
+loop-less : tie.Need-loop-less Inv-loop μ-loop
+loop-less c = search needs
+
+loop-again : tie.Need-loop-again Inv-loop μ-loop
+loop-again c = search needs
+
+returns : tie.Need-returns Inv-loop μ-loop
+returns c = search needs
+
+pub say-words-spec : {M : Type 1} → statement M
+say-words-spec =
+    tie.close
+    (tie.spec
+    Inv-loop
+    μ-loop
+    slice-aggregate-say
+    say-requires
+    loop-holds
+    mul-say-number
+    shared-slice-read-say-number
+    say-number-requires
+    add-i
+    loop-less
+    loop-again
+    returns)

@@ -24,4 +24,6 @@ pub mod Shape
 pub mod Queries
 pub mod Prefixes
 pub mod Paths
+pub mod ValueSet
 pub mod Common
+pub mod Steps

@@ -13,3 +13,4 @@ pub mod Forest
 pub mod BreadthFirst
 pub mod Decode
 pub mod Paths
+pub mod Steps

@@ -4,14 +4,16 @@
 --     IsNode        k is the number of a node; `isNode` as a test
 --     pathOf        the path of node k
 --     nodeOf        the number of the node at a path
+--     isPath        a path is a node's
 -- Assumes nothing.
 use Prim.Native.Nat.{ℕ, zero, suc, _≤_}
-use mathlib.Core.Bool.{Bool, cond, _&&_}
+use mathlib.Core.Bool.{Bool, true, cond, _&&_}
 use mathlib.Core.List.{List, [], _∷_}
 use lib.ListN.{length, getD}
 use lib.Dec.{leb}
 use Rattle.keymap.specs.Key.{Key, sameKey}
 use Rattle.keymap.specs.Map.{Map}
+use Rattle.keymap.specs.Queries.{nonempty, beginning}
 use Rattle.keymap.specs.Prefixes.{prefixes}
 
 unfoldable pub nodes : Map → List Key
@@ -34,3 +36,8 @@ indexOf p (q ∷ ps) = cond (sameKey p q) 0 (suc (indexOf p ps))
 
 unfoldable pub nodeOf : Map → Key → ℕ
 nodeOf m p = suc (indexOf p (nodes m))
+
+-- p is the path of a node: the root's, or that of a key's prefix
+abbrev pub isPath : Map → Key → Bool
+isPath m [] = true
+isPath m (a ∷ p) = nonempty (beginning (a ∷ p) m)

@@ -1,12 +1,16 @@
 -- Prefixes of keys: to begin with q is to be q and something behind it, so the prefixes of one key are told apart by their lengths, and stand below it.
 --
 --     prefix-iff           a key begins with q exactly if it is q and a rest
+--     prefix-leading       a key begins with each of its leading parts
 --     prefix-take          and exactly if q is its leading part
+--     bytes-prefix         the prefixes of a key of bytes are of bytes
 --     prefix-chain         of two prefixes of one key the shorter is a prefix of the longer
 --     prefix-rises         and stands below it exactly if it is shorter
 --     prefix-below         a key stands below all others that begin with it
 --     extends-iff          to extend q is to begin with it and to be longer
 --     commonPrefix-iff     the prefixes of the common prefix are those that both keys have
+--     compareKeys-append   behind a common beginning the rests decide
+--     prefix-between       what stands between two keys that begin with q begins with it
 --
 -- Assumes nothing.
 use mathlib.Core.Path.{_≡_, refl, sym, ap, _∙_}
@@ -19,7 +23,7 @@ use lib.ListN.{length, take, drop, length-append, take-append-drop}
 use lib.Dec.{eqb, ltb}
 use lib.Seq.{take-append-seam}
 use borrow.Author.Tests.{eqb-true, eqb-false, eq-eqb, ltb-true, lt-ltb}
-use Rattle.keymap.specs.Key.{Key, compareKeys, Below, beginsWith, PrefixOf, extends, commonPrefix}
+use Rattle.keymap.specs.Key.{Key, Bytes, compareKeys, Below, beginsWith, PrefixOf, extends, commonPrefix}
 use Rattle.keymap.proofs.Laws.Key.{Order, order, compare-refl, below-irrefl, below-asym}
 
 pub prefix-empty : (k : Key) → PrefixOf [] k
@@ -69,6 +73,11 @@ prefix-trans (a ∷ p) (b ∷ q) (c ∷ k) g h =
 pub prefix-length : (q k : Key) → PrefixOf q k → length q ≤ length k
 prefix-length q k h = let (r, e) = prefix-rest q k h in omega (arith, ap length e, length-append q r)
 
+pub bytes-prefix : (q k : Key) → PrefixOf q k → Bytes k → Bytes q
+bytes-prefix [] k h b = tt
+bytes-prefix (a ∷ q) [] h b = absurd (prefix-nil a q h)
+bytes-prefix (a ∷ q) (c ∷ k) h b = let (e, p) = prefix-cons a q c k .0 h in (rw e (b .0), bytes-prefix q k p (b .1))
+
 pub prefix-chain : (p q k : Key) → PrefixOf p k → PrefixOf q k → length p ≤ length q → PrefixOf p q
 prefix-chain [] q k g h l = prefix-empty q
 prefix-chain (a ∷ p) [] k g h l = absurd (omega arith)
@@ -96,11 +105,11 @@ prefix-proper q k h = (λ l s. omega (arith, ap length s), go (order (length q) 
     go (Order.same l e) n = absurd (n (sym (prefix-whole q k h (omega arith))))
     go (Order.above l e f) n = omega (arith, prefix-length q k h)
 
+pub prefix-leading : (d : ℕ) (k : Key) → PrefixOf (take d k) k
+prefix-leading d k = prefix-iff (take d k) k .1 (drop d k, sym (take-append-drop d k))
+
 pub prefix-take : (p k : Key) → PrefixOf p k ↔ (take (length p) k ≡ p)
-prefix-take p k = (λ h. let (r, e) = prefix-rest p k h in rw e (take-append-seam p r), λ e. rw e at (leading (length p)))
-  where
-    leading : (d : ℕ) → PrefixOf (take d k) k
-    leading d = prefix-iff (take d k) k .1 (drop d k, sym (take-append-drop d k))
+prefix-take p k = (λ h. let (r, e) = prefix-rest p k h in rw e (take-append-seam p r), λ e. rw e at (prefix-leading (length p) k))
 
 pub prefix-below : (q k : Key) → PrefixOf q k → length q < length k → Below q k
 unfolding compareKeys
@@ -176,3 +185,28 @@ commonPrefix-iff (c ∷ p) (a ∷ x) (b ∷ y) = go (eqb a b) refl (commonPrefix
           λ h. absurd (prefix-nil c p h),
           λ h. absurd (eqb-false a b e (sym (prefix-cons c p a x .0 (h .0) .0) ∙ prefix-cons c p b y .0 (h .1) .0)),
         )
+
+pub compareKeys-append : (q x y : Key) → compareKeys (q ++ x) (q ++ y) ≡ compareKeys x y
+unfolding compareKeys
+compareKeys-append [] x y = refl
+compareKeys-append (a ∷ q) x y = rw compare-refl (compareKeys-append q x y)
+
+pub prefix-between : (q x z y : Key) → PrefixOf q x → PrefixOf q y → Below x z → Below z y → PrefixOf q z
+unfolding compareKeys
+prefix-between [] x z y g h l u = prefix-empty z
+prefix-between (a ∷ q) [] z y g h l u = absurd (prefix-nil a q g)
+prefix-between (a ∷ q) (b ∷ x) [] y g h l u = absurd (let z : _≡_ {A = ℕ} 0 1 = cc in omega arith)
+prefix-between (a ∷ q) (b ∷ x) (c ∷ z) [] g h l u = absurd (prefix-nil a q h)
+prefix-between (a ∷ q) (b ∷ x) (c ∷ z) (d ∷ y) g h l u =
+    let (e, s) = prefix-cons a q b x .0 g in
+    let (f, t) = prefix-cons a q d y .0 h in
+    go e f (λ i j. prefix-between q x z y s t i j) (order b c) (order c d)
+  where
+    go : a ≡ b → a ≡ d → (Below x z → Below z y → PrefixOf q z) → Order b c → Order c d → PrefixOf (a ∷ q) (c ∷ z)
+    go e f ih (Order.above k p r) o = absurd (let z : _≡_ {A = ℕ} 0 1 = cc in omega arith)
+    go e f ih (Order.below k p r) (Order.below m v w) = absurd (omega arith)
+    go e f ih (Order.below k p r) (Order.same m v) = absurd (omega arith)
+    go e f ih (Order.below k p r) (Order.above m v w) = absurd (let z : _≡_ {A = ℕ} 0 1 = cc in omega arith)
+    go e f ih (Order.same k p) (Order.below m v w) = absurd (omega arith)
+    go e f ih (Order.same k p) (Order.same m v) = prefix-cons a q c z .1 (e ∙ k, ih (rw p at l) (rw v at u))
+    go e f ih (Order.same k p) (Order.above m v w) = absurd (omega arith)

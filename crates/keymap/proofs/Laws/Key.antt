@@ -11,7 +11,8 @@ use Prim.Native.Nat.{ℕ, zero, suc, _<_, suc-le-suc, zero-le, compare, Ordering
 use Prim.Native.Nat.{compare·zero-zero, compare·zero-suc, compare·suc-zero, compare·suc-suc}
 use native.Mathlib.Omega.{arith}
 use mathlib.Core.List.{[], _∷_, _++_}
-use Rattle.keymap.specs.Key.{Key, compareKeys, lastByte, Below}
+use Rattle.keymap.specs.Key.{Key, Bytes, compareKeys, lastByte, Below}
+use Rattle.keymap.specs.Limits.{byteLimit}
 
 -- how two numbers stand, with what `compare` says of them either way
 pub data Order (a b : ℕ) : Type 0 where
@@ -96,6 +97,11 @@ pub lastByte-append : (p : Key) (a : ℕ) → lastByte (p ++ (a ∷ [])) ≡ a
 lastByte-append [] a = refl
 lastByte-append (b ∷ []) a = refl
 lastByte-append (b ∷ c ∷ p) a = lastByte-append (c ∷ p) a
+
+pub bytes-last : (p : Key) → Bytes p → lastByte p < byteLimit
+bytes-last [] b = omega arith
+bytes-last (a ∷ []) b = b .0
+bytes-last (a ∷ c ∷ p) b = bytes-last (c ∷ p) (b .1)
 
 pub below-irrefl : (x : Key) → ¬ Below x x
 below-irrefl x h =

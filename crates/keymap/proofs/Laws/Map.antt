@@ -221,6 +221,11 @@ lookup-empty [] p = refl
 lookup-empty (([], v) ∷ m) p = absurd (p .0 refl)
 lookup-empty ((a ∷ k, v) ∷ m) p = refl
 
+-- what is said of a proper map's entries, of each
+pub proper-in : (m : Map) → Proper m → (e : Entry) → In e m → (¬ (e .0 ≡ [])) × Bytes (e .0) × (e .1 < valueLimit)
+proper-in [] p e i = absurd (List·Memᴰ·not-nil i)
+proper-in (d ∷ m) p e i = ⊎-elim (λ s. rw s (p .0, p .1, p .2)) (λ j. proper-in m (p .3) e j) (List·Memᴰ·cases-cons i)
+
 -- ---- inserts in turn
 
 -- what comes last is inserted last

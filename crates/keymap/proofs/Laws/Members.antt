@@ -2,18 +2,22 @@
 -- that list is at least as long, since taking an element out of both leaves as much.
 --
 --     in-map           what a mapped list has
+--     getD-in          what stands at an index
+--     ordered-getD     elements stand as their indexes do
+--     ordered-one      two lists in one order that have the same elements are one list
 --     ordered-append   two ordered lists make one, if the first stands before the second
 --     distinct-same    two lists without repeats that have the same elements are equally long
 --
 -- Assumes nothing.
-use mathlib.Core.Path.{_≡_, refl, sym, ap, _∙_}
+use mathlib.Core.Path.{_≡_, refl, sym, ap, _∙_, subst}
 use mathlib.Core.Logic.{_↔_, _⊎_, inl, inr, ⊎-elim}
-use Prim.Native.Nat.{_≤_}
+use Prim.Native.Nat.{ℕ, zero, suc, _≤_, _<_}
+use native.Mathlib.Nat.{le-of-suc-le-suc}
 use native.Mathlib.Omega.{arith}
 use mathlib.Core.List.{List, [], _∷_, _++_, map, head?, Memᴰ·cast, Memᴰ·append-left, Memᴰ·append-right}
 use mathlib.Core.List.{List·Memᴰ·append-cases, List·Memᴰ·cases-cons, List·Memᴰ·not-nil}
 use mathlib.Core.Option.{none, some, Option·none-ne-some, Option·some-injective}
-use lib.ListN.{length, length-append}
+use lib.ListN.{length, getD, length-append}
 use Rattle.keymap.specs.Members.{In, here, there, Ordered, Distinct}
 
 module _ {A B : Type 0} (f : A → B) where
@@ -47,6 +51,12 @@ module _ {A : Type 0} where
   head-before R {x} (z ∷ xs) o e y i =
       let s : z ≡ x = Option·some-injective z x e in
       ⊎-elim (λ t. inl (t ∙ s)) (λ j. inr (rw s at (o .0 y j))) (List·Memᴰ·cases-cons i)
+
+  -- what stands at an index of a list is one of it
+  pub getD-in : (d : A) (xs : List A) (i : ℕ) → i < length xs → In (getD xs i d) xs
+  getD-in d [] i h = absurd (omega arith)
+  getD-in d (x ∷ xs) zero h = here refl
+  getD-in d (x ∷ xs) (suc i) h = there (getD-in d xs i (le-of-suc-le-suc h))
 
   pub members-none : (xs : List A) → ((x : A) → ¬ In x xs) → xs ≡ []
   members-none [] h = refl
@@ -101,6 +111,34 @@ module _ {A : Type 0} where
     pub ordered-append : (xs ys : List A) → Ordered R (xs ++ ys) ↔ (Ordered R xs × Ordered R ys × ((x y : A) → In x xs → In y ys → R x y))
     ordered-append xs ys =
         (λ o. (ordered-left xs ys o, ordered-right xs ys o, ordered-apart xs ys o), λ p. ordered-join xs ys (p .0) (p .1) (p .2))
+
+  -- two lists in the order of one relation that have the same elements are one list
+  pub ordered-one : (R : A → A → Type 0) → ((x y : A) → R x y → ¬ R y x) → (xs ys : List A) → Ordered R xs → Ordered R ys → ((x : A) → In x xs ↔ In x ys) → xs ≡ ys
+  ordered-one R away [] [] o p h = refl
+  ordered-one R away [] (y ∷ ys) o p h = absurd (List·Memᴰ·not-nil (h y .1 (here refl)))
+  ordered-one R away (x ∷ xs) [] o p h = absurd (List·Memᴰ·not-nil (h x .0 (here refl)))
+  ordered-one R away (x ∷ xs) (y ∷ ys) o p h =
+      let rest : xs ≡ ys = ordered-one R away xs ys (o .1) (p .1) (λ z. (from z, to z)) in
+      λ j. first j ∷ rest j
+    where
+      self : (z : A) → ¬ R z z
+      self z r = away z z r r
+
+      first : x ≡ y
+      first = ⊎-elim (λ e. e) (λ i. ⊎-elim (λ e. sym e) (λ j. absurd (away x y (o .0 y j) (p .0 x i))) (List·Memᴰ·cases-cons (h y .1 (here refl)))) (List·Memᴰ·cases-cons (h x .0 (here refl)))
+
+      from : (z : A) → In z xs → In z ys
+      from z i = ⊎-elim (λ e. absurd (self x (subst (λ (t : A). R x t) (e ∙ sym first) (o .0 z i)))) (λ j. j) (List·Memᴰ·cases-cons (h z .0 (there i)))
+
+      to : (z : A) → In z ys → In z xs
+      to z i = ⊎-elim (λ e. absurd (self y (subst (λ (t : A). R y t) (e ∙ first) (p .0 z i)))) (λ j. j) (List·Memᴰ·cases-cons (h z .1 (there i)))
+
+  -- elements stand as their indexes do
+  pub ordered-getD : (R : A → A → Type 0) (d : A) (xs : List A) → Ordered R xs → (i j : ℕ) → i < j → j < length xs → R (getD xs i d) (getD xs j d)
+  ordered-getD R d [] o i j l h = absurd (omega arith)
+  ordered-getD R d (x ∷ xs) o i zero l h = absurd (omega arith)
+  ordered-getD R d (x ∷ xs) o zero (suc j) l h = o .0 (getD xs j d) (getD-in d xs j (le-of-suc-le-suc h))
+  ordered-getD R d (x ∷ xs) o (suc i) (suc j) l h = ordered-getD R d xs (o .1) i j (le-of-suc-le-suc l) (le-of-suc-le-suc h)
 
   pub ordered-weak : {R S : A → A → Type 0} (xs : List A) → ((x y : A) → In x xs → In y xs → R x y → S x y) → Ordered R xs → Ordered S xs
   ordered-weak [] w o = tt

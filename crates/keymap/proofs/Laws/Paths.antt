@@ -2,8 +2,12 @@
 -- behind those of the nodes before it, since the nodes but the root are the children of each node in turn.
 --
 --     pathOf-nodeOf, nodeOf-pathOf   a node's path and number give each other
+--     pathOf-earlier                 nodes are numbered in breadth-first order, and `pathOf-longer`: a longer path has a higher number
 --     nodes-iff                      the paths of nodes are the root's and those with which some key begins
+--     isPath-iff                     and the test says so
+--     nodes-prefix                   the way to a node goes over nodes
 --     pathOf-child                   the paths of a node's children, by their numbers
+--     children-room                  where they end
 --     childrenIn-iff                 they are the paths one byte longer with which some key begins
 --     childrenIn-some                there are some exactly if some longer key begins with the path
 --     childrenIn-ordered             in rising order, which is that of their last bytes: `below-label`
@@ -11,39 +15,40 @@
 -- Assumes nothing.
 use mathlib.Core.Path.{_≡_, refl, sym, ap, _∙_}
 use mathlib.Core.Logic.{_↔_, _⊎_, inl, inr, ⊎-elim}
-use Prim.Native.Nat.{ℕ, zero, suc, _+_, _-_, _<_}
+use Prim.Native.Nat.{ℕ, zero, suc, _+_, _-_, _<_, _≤_}
 use native.Mathlib.Omega.{arith}
 use native.Mathlib.Nat.{zero-add, not-suc-le-zero, le-of-suc-le-suc}
-use mathlib.Core.List.{List, [], _∷_, _++_, map, flatMap, append-assoc, List·Memᴰ·cases-cons, List·Memᴰ·not-nil}
+use mathlib.Core.List.{List, [], _∷_, _++_, map, flatMap, append-assoc, cons-ne-nil, List·Memᴰ·cases-cons, List·Memᴰ·not-nil}
 use mathlib.Core.Bool.{Bool, true, false, false≢true}
 use lib.ListN.{length, getD, List·getD-append, length-append}
 use lib.Seq.{getD-append-add}
 use lib.Dec.{leb}
 use borrow.Author.Tests.{leb-true, le-leb}
 use Rattle.keymap.specs.Members.{In, here, there, Ordered, Distinct}
-use Rattle.keymap.specs.Key.{Key, compareKeys, Below, beginsWith, lastByte}
+use Rattle.keymap.specs.Key.{Key, Bytes, PrefixOf, compareKeys, Below, beginsWith, lastByte}
 use Rattle.keymap.specs.Label.{labelEntry, valueWord}
-use Rattle.keymap.specs.Map.{Entry, Map, Rising, Catalogue, lookup}
+use Rattle.keymap.specs.Map.{Entry, Map, Rising, Proper, Catalogue, lookup}
 use Rattle.keymap.specs.Queries.{keep, nonempty, SomeBegins, isPrefixIn}
-use Rattle.keymap.specs.Prefixes.{level, prefixes}
+use Rattle.keymap.specs.Prefixes.{level, prefixes, Earlier}
 use Rattle.keymap.specs.Bits.{sumBelow}
 use Rattle.keymap.specs.Image.{childrenIn, degree, imageLabels, imageValues}
-use Rattle.keymap.specs.Paths.{nodes, IsNode, isNode, pathOf, indexOf, nodeOf}
+use Rattle.keymap.specs.Paths.{nodes, IsNode, isNode, pathOf, indexOf, nodeOf, isPath}
 use Rattle.keymap.proofs.Laws.Sums.{sumBelow-zero, sumBelow-suc, sumBelow-first, sumBelow-mono}
+use Rattle.keymap.proofs.Laws.Members.{getD-in, ordered-getD}
 use Rattle.keymap.proofs.Laws.Key.{Order, order, compare-lt, compare-refl, KeyOrder, keyOrder, compareKeys-refl}
-use Rattle.keymap.proofs.Laws.Begins.{both-true, prefix-iff, prefix-trans, prefix-length}
-use Rattle.keymap.proofs.Laws.Queries.{keep-iff, keep-ordered, isPrefixIn-iff}
-use Rattle.keymap.proofs.Laws.Map.{decKey}
-use Rattle.keymap.proofs.Laws.Prefixes.{level-iff, level-ordered, prefixes-iff, prefixes-distinct}
+use Rattle.keymap.proofs.Laws.Begins.{both-true, bytes-prefix, prefix-iff, prefix-trans, prefix-length, prefix-whole}
+use Rattle.keymap.proofs.Laws.Queries.{keep-iff, keep-ordered, nonempty-beginning, isPrefixIn-iff}
+use Rattle.keymap.proofs.Laws.Map.{decKey, proper-in}
+use Rattle.keymap.proofs.Laws.Prefixes.{level-iff, level-ordered, prefixes-iff, prefixes-ordered, prefixes-distinct}
 use Rattle.keymap.proofs.Laws.Children.{prefixes-children}
 
 -- ---- where a key stands in a list
 
-indexOf-here : (p : Key) (ps : List Key) → indexOf p (p ∷ ps) ≡ 0
+pub indexOf-here : (p : Key) (ps : List Key) → indexOf p (p ∷ ps) ≡ 0
 unfolding indexOf
 indexOf-here p ps = rw compareKeys-refl
 
-indexOf-past : (p q : Key) (ps : List Key) → ¬ (p ≡ q) → indexOf p (q ∷ ps) ≡ suc (indexOf p ps)
+pub indexOf-past : (p q : Key) (ps : List Key) → ¬ (p ≡ q) → indexOf p (q ∷ ps) ≡ suc (indexOf p ps)
 unfolding indexOf
 indexOf-past p q ps n = go (keyOrder p q)
   where
@@ -64,17 +69,12 @@ indexOf-in p (q ∷ ps) h = go (decKey p q) (λ i. indexOf-in p ps i)
         let (l, e) = ih (⊎-elim (λ s. absurd (n s)) (λ i. i) (List·Memᴰ·cases-cons h)) in
         rw (indexOf-past p q ps n) (omega arith, e)
 
-getD-in : (ps : List Key) (i : ℕ) → i < length ps → In (getD ps i []) ps
-getD-in [] i h = absurd (not-suc-le-zero h)
-getD-in (p ∷ ps) zero h = here refl
-getD-in (p ∷ ps) (suc i) h = there (getD-in ps i (le-of-suc-le-suc h))
-
 indexOf-getD : (ps : List Key) → Distinct ps → (i : ℕ) → i < length ps → indexOf (getD ps i []) ps ≡ i
 indexOf-getD [] o i h = absurd (not-suc-le-zero h)
 indexOf-getD (p ∷ ps) o zero h = indexOf-here p ps
 indexOf-getD (p ∷ ps) o (suc i) h =
     let l : i < length ps = le-of-suc-le-suc h in
-    indexOf-past (getD ps i []) p ps (λ s. o .0 (getD ps i []) (getD-in ps i l) (sym s)) ∙ ap suc (indexOf-getD ps (o .1) i l)
+    indexOf-past (getD ps i []) p ps (λ s. o .0 (getD ps i []) (getD-in [] ps i l) (sym s)) ∙ ap suc (indexOf-getD ps (o .1) i l)
 
 -- ---- nodes
 
@@ -91,7 +91,7 @@ isNode-iff m k =
 pub pathOf-in : (m : Map) (k : ℕ) → IsNode m k → In (pathOf m k) (nodes m)
 unfolding pathOf
 pathOf-in m zero (l, h) = absurd (omega arith)
-pathOf-in m (suc i) (l, h) = getD-in (nodes m) i (omega arith)
+pathOf-in m (suc i) (l, h) = getD-in [] (nodes m) i (omega arith)
 
 pub nodeOf-node : (m : Map) (p : Key) → In p (nodes m) → IsNode m (nodeOf m p)
 unfolding nodeOf
@@ -105,10 +105,41 @@ nodes-distinct : (m : Map) → Rising m → Distinct (nodes m)
 unfolding nodes
 nodes-distinct m r = (λ p i e. prefixes-iff m p .0 i .0 (sym e), prefixes-distinct m r)
 
+-- nodes are numbered in breadth-first order
+pub pathOf-earlier : (m : Map) → Rising m → (j k : ℕ) → IsNode m j → IsNode m k → j < k → Earlier (pathOf m j) (pathOf m k)
+unfolding pathOf nodes
+pathOf-earlier m r zero k (l, h) n b = absurd (omega arith)
+pathOf-earlier m r (suc j) zero n (l, h) b = absurd (omega arith)
+pathOf-earlier m r (suc j) (suc k) n (l, h) b = ordered-getD Earlier [] (nodes m) (root-first, prefixes-ordered m r) j k (omega arith) (omega arith)
+  where
+    root-first : (p : Key) → In p (prefixes m) → Earlier [] p
+    root-first p i = inl (positive p (prefixes-iff m p .0 i .0))
+      where
+        positive : (q : Key) → ¬ (q ≡ []) → 0 < length q
+        positive [] n = absurd (n refl)
+        positive (a ∷ q) n = omega arith
+
+-- so a longer path has a higher number
+pub pathOf-longer : (m : Map) → Rising m → (j k : ℕ) → IsNode m j → IsNode m k → length (pathOf m j) < length (pathOf m k) → j < k
+pathOf-longer m r j k n h l = go (order j k)
+  where
+    go : Order j k → j < k
+    go (Order.below b e f) = b
+    go (Order.same b e) = absurd (omega (arith, ap (λ (x : ℕ). length (pathOf m x)) b))
+    go (Order.above b e f) = absurd (⊎-elim (λ g. omega arith) (λ g. omega (arith, g .0)) (pathOf-earlier m r k j h n b))
+
 pub nodeOf-pathOf : (m : Map) → Rising m → (k : ℕ) → IsNode m k → nodeOf m (pathOf m k) ≡ k
 unfolding pathOf nodeOf
 nodeOf-pathOf m r zero (l, h) = absurd (omega arith)
 nodeOf-pathOf m r (suc i) (l, h) = ap suc (indexOf-getD (nodes m) (nodes-distinct m r) i (omega arith))
+
+-- one path, one number
+pub pathOf-one : (m : Map) → Rising m → (j k : ℕ) → IsNode m j → IsNode m k → pathOf m j ≡ pathOf m k → j ≡ k
+pathOf-one m r j k h n e = sym (nodeOf-pathOf m r j h) ∙ ap (nodeOf m) e ∙ nodeOf-pathOf m r k n
+
+pub nodeOf-root : (m : Map) → nodeOf m [] ≡ 1
+unfolding nodeOf nodes
+nodeOf-root m = ap suc (indexOf-here [] (prefixes m))
 
 -- a path is a node's exactly if it is the root's or some key begins with it
 pub nodes-iff : (m : Map) (p : Key) → In p (nodes m) ↔ ((p ≡ []) ⊎ SomeBegins p m)
@@ -121,6 +152,24 @@ nodes-iff m p = (
     go : SomeBegins p m → Dec (p ≡ []) → In p ([] ∷ prefixes m)
     go b (yes e) = here e
     go b (no n) = there (prefixes-iff m p .1 (n, b))
+
+pub isPath-iff : (m : Map) (p : Key) → (isPath m p ≡ true) ↔ In p (nodes m)
+isPath-iff m [] = (λ h. nodes-iff m [] .1 (inl refl), λ h. refl)
+isPath-iff m (a ∷ p) = (
+  λ h. nodes-iff m (a ∷ p) .1 (inr (nonempty-beginning (a ∷ p) m .0 h)),
+  λ h. ⊎-elim (λ e. absurd (cons-ne-nil a p e)) (λ b. nonempty-beginning (a ∷ p) m .1 b) (nodes-iff m (a ∷ p) .0 h),
+)
+
+-- the way to a node goes over nodes
+pub nodes-prefix : (m : Map) (p q : Key) → PrefixOf p q → In q (nodes m) → In p (nodes m)
+nodes-prefix m p q h n = ⊎-elim root (λ b. nodes-iff m p .1 (inr (b .0, b .1, prefix-trans p q (b .0 .0) h (b .2)))) (nodes-iff m q .0 n)
+  where
+    root : q ≡ [] → In p (nodes m)
+    root e = nodes-iff m p .1 (inl (prefix-whole p [] (rw e at h) (omega arith)))
+
+-- a node's path is of bytes
+pub path-bytes : (m : Map) → Proper m → (p : Key) → In p (nodes m) → Bytes p
+path-bytes m r p h = ⊎-elim (λ e. rw e tt) (λ b. bytes-prefix p (b .0 .0) (b .2) (proper-in m r (b .0) (b .1) .1)) (nodes-iff m p .0 h)
 
 -- ---- children
 
@@ -154,13 +203,13 @@ unfolding pathOf nodes degree
 pathOf-child m c i j h l =
     ap (λ (ps : List Key). getD ps (sumBelow (degreeAt m) i + j) []) (prefixes-children m c) ∙ flatMap-run (childrenIn m) ([] ∷ prefixes m) i j h l
 
--- and it is a node
-pub child-inside : (m : Map) → Catalogue m → (i j : ℕ) → i < length (nodes m) → j < degreeAt m i → IsNode m (suc (suc (sumBelow (degreeAt m) i + j)))
+-- the last child of a node is a node
+pub children-room : (m : Map) → Catalogue m → (i : ℕ) → i < length (nodes m) → sumBelow (degreeAt m) i + degreeAt m i ≤ length (prefixes m)
 unfolding pathOf nodes degree
-child-inside m c i j h l =
+children-room m c i h =
     let all : length (prefixes m) ≡ sumBelow (degreeAt m) (length (nodes m)) =
     ap length (prefixes-children m c) ∙ length-flatMap (childrenIn m) ([] ∷ prefixes m) in
-    (omega arith, omega (arith, all, sumBelow-suc (degreeAt m) i, sumBelow-mono (degreeAt m) {i = suc i} {j = length (nodes m)} h))
+    omega (arith, all, sumBelow-suc (degreeAt m) i, sumBelow-mono (degreeAt m) {i = suc i} {j = length (nodes m)} h)
 
 -- ---- what a node's children are
 
@@ -202,7 +251,8 @@ below-label [] a b = (go (order a b), λ l. rw (compare-lt a b l))
     go (Order.above l e f) h = let z : _≡_ {A = ℕ} 0 1 = cc in absurd (omega arith)
 below-label (c ∷ p) a b = rw compare-refl (below-label p a b)
 
-tests-same : (s t : Bool) → (s ≡ true → t ≡ true) → (t ≡ true → s ≡ true) → s ≡ t
+-- two tests that are true together are the same
+pub tests-same : (s t : Bool) → (s ≡ true → t ≡ true) → (t ≡ true → s ≡ true) → s ≡ t
 tests-same true t g h = sym (g refl)
 tests-same false true g h = h refl
 tests-same false false g h = refl

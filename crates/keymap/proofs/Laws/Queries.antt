@@ -2,6 +2,7 @@
 -- prefixes of one query rise with their lengths, so there the first is the shortest.
 --
 --     keep-iff, lookup-keep     what a test keeps of a list, and what is looked up in a map of which it keeps a part
+--     keep-all, keep-drops      a test that all pass keeps the list; a sharper test that drops one keeps fewer
 --     beginning-iff             the predictive listing has the entries whose keys begin with the query
 --     longer-iff                the postfix listing has those that are longer besides
 --     beginning-present         the first is the second with the query's own entry before it, and `beginning-absent` where it has none
@@ -65,6 +66,11 @@ module _ {A : Type 0} (test : A → Bool) where
     λ h. members-none (keep test xs) (λ x i. let (j, t) = keep-iff x xs .0 i in h x j t),
   )
 
+  pub keep-all : (xs : List A) → ((x : A) → In x xs → test x ≡ true) → keep test xs ≡ xs
+  unfolding keep
+  keep-all [] h = refl
+  keep-all (x ∷ xs) h = rw (h x (here refl)) (ap (λ (ys : List A). x ∷ ys) (keep-all xs (λ y i. h y (there i))))
+
   nonempty-keep : (xs : List A) → (nonempty (keep test xs) ≡ true) ↔ ((x : A) × In x xs × (test x ≡ true))
   nonempty-keep xs = (go (keep test xs) refl, λ h. back (keep test xs) (keep-iff (h .0) xs .1 (h .1, h .2)))
     where
@@ -75,6 +81,33 @@ module _ {A : Type 0} (test : A → Bool) where
       back : {x : A} (ys : List A) → In x ys → nonempty ys ≡ true
       back [] i = absurd (List·Memᴰ·not-nil i)
       back (y ∷ ys) i = refl
+
+-- a sharper test keeps fewer, and strictly fewer where it drops one that the other keeps
+module _ {A : Type 0} (s t : A → Bool) (sharper : (x : A) → s x ≡ true → t x ≡ true) where
+  keep-fewer : (xs : List A) → length (keep s xs) ≤ length (keep t xs)
+  unfolding keep
+  keep-fewer [] = omega arith
+  keep-fewer (x ∷ xs) = go (s x) refl (t x) refl (keep-fewer xs)
+    where
+      go : (a : Bool) → s x ≡ a → (b : Bool) → t x ≡ b → length (keep s xs) ≤ length (keep t xs) → length (keep s (x ∷ xs)) ≤ length (keep t (x ∷ xs))
+      go true e true f l = rw (e, f) (omega arith)
+      go true e false f l = absurd (true≢false (sym (sharper x e) ∙ f))
+      go false e true f l = rw (e, f) (omega arith)
+      go false e false f l = rw (e, f) l
+
+  pub keep-drops : (xs : List A) (y : A) → In y xs → s y ≡ false → t y ≡ true → length (keep s xs) < length (keep t xs)
+  unfolding keep
+  keep-drops [] y i g h = absurd (List·Memᴰ·not-nil i)
+  keep-drops (x ∷ xs) y i g h = go (s x) refl (t x) refl (List·Memᴰ·cases-cons i) (λ j. keep-drops xs y j g h)
+    where
+      go : (a : Bool) → s x ≡ a → (b : Bool) → t x ≡ b → (y ≡ x) ⊎ In y xs → (In y xs → length (keep s xs) < length (keep t xs))
+          → length (keep s (x ∷ xs)) < length (keep t (x ∷ xs))
+      go true e true f (inl u) ih = absurd (true≢false (sym (ap s u ∙ e) ∙ g))
+      go true e true f (inr j) ih = rw (e, f) (omega (arith, ih j))
+      go true e false f j ih = absurd (true≢false (sym (sharper x e) ∙ f))
+      go false e true f j ih = rw (e, f) (omega (arith, keep-fewer xs))
+      go false e false f (inl u) ih = absurd (true≢false (sym h ∙ ap t u ∙ f))
+      go false e false f (inr j) ih = rw (e, f) (ih j)
 
 pub keep-rising : (test : Entry → Bool) (m : Map) → Rising m → Rising (keep test m)
 keep-rising test m r = rising-iff (keep test m) .1 (keep-ordered test _ m (rising-iff m .0 r))
@@ -327,11 +360,16 @@ commonPrefixIn-none q seen m =
     first-none (λ (e : Entry). beginsWith (e .0) q && ltb seen (length (e .0))) m in
     (λ h e i w l. first .0 h e i (fits-iff q seen (e .0) .1 (w, l)), λ h. first .1 (λ e i t. let (w, l) = fits-iff q seen (e .0) .0 t in h e i w l))
 
+-- what is answered is a prefix of the query
+pub commonPrefixIn-within : (q : Key) (seen : ℕ) (m : Map) (e : Entry) → commonPrefixIn q seen m ≡ some e → PrefixOf (e .0) q
+unfolding commonPrefixIn
+commonPrefixIn-within q seen m e h = fits-iff q seen (e .0) .0 (keep-iff (λ (d : Entry). beginsWith (d .0) q && ltb seen (length (d .0))) e m .0 (head-in _ h) .1) .0
+
 -- nothing that is longer than the query is a prefix of it
 pub commonPrefixIn-past : (q : Key) (seen : ℕ) (m : Map) → length q ≤ seen → commonPrefixIn q seen m ≡ none
 commonPrefixIn-past q seen m h = commonPrefixIn-none q seen m .1 (λ e i w l. omega (arith, prefix-length (e .0) q w))
 
-above-iff : (k x : Key) → (isBelow k x ≡ true) ↔ Below k x
+pub above-iff : (k x : Key) → (isBelow k x ≡ true) ↔ Below k x
 above-iff k x = go (compareKeys k x) refl
   where
     go : (o : Ordering) → compareKeys k x ≡ o → (pick o true false false ≡ true) ↔ Below k x

@@ -1,13 +1,15 @@
 -- Navigation on the image of a map, by paths. The degrees that its bits spell are those of its nodes in level order, so the children of a node
 -- are the paths one byte longer, in order; and the parent of a node is the path without its last byte, since no path is the child of two.
 --
+--     zero-node         node k's zero is there, and so is the one behind the last node's children
 --     children-node     how many children node k has, and their paths by number
 --     child-label       where among them the child with a label stands
 --     parent-node       the number of a node's parent
 -- Assumes nothing.
 use mathlib.Core.Path.{_≡_, refl, sym, ap, ap₂, _∙_}
-use Prim.Native.Nat.{ℕ, zero, suc, _+_, _<_}
+use Prim.Native.Nat.{ℕ, zero, suc, _+_, _<_, _≤_}
 use native.Mathlib.Omega.{arith}
+use native.Mathlib.Numerals.{add-one}
 use mathlib.Core.List.{List, [], _∷_, _++_, map}
 use lib.ListN.{length, getD, take, length-map}
 use Rattle.keymap.specs.Key.{Key}
@@ -20,15 +22,17 @@ use Rattle.keymap.specs.Degrees.{total}
 use Rattle.keymap.specs.Image.{bitsFor, childrenIn, degree, imageBits}
 use Rattle.keymap.specs.Paths.{nodes, IsNode, pathOf, indexOf, nodeOf}
 use Rattle.keymap.proofs.Laws.Sums.{sumBelow-ext}
-use Rattle.keymap.proofs.Laws.Bits.{bit-small}
-use Rattle.keymap.proofs.Laws.Degrees.{total-take}
+use Rattle.keymap.proofs.Laws.Bits.{bit-small, bit-pack}
+use Rattle.keymap.proofs.Laws.Degrees.{total-take, sequence-small}
 use Rattle.keymap.proofs.Laws.Image.{length-imageBits}
-use Rattle.keymap.proofs.Laws.Paths.{degreeAt, getD-map, indexOf-in, pathOf-child, child-inside, childrenIn-iff, nodeOf-node, pathOf-nodeOf, nodeOf-pathOf}
+use Rattle.keymap.proofs.Laws.Paths.{degreeAt, getD-map, indexOf-in, pathOf-child, children-room, childrenIn-iff, nodeOf-node, pathOf-nodeOf, nodeOf-pathOf}
+use Rattle.louds.specs.declared.Spot.the-variants.{At}
 use Rattle.louds.specs.declared.Kids.the-variants.{Run}
 use Rattle.louds.specs.declared.Up.the-variants.{Node}
+use Rattle.louds.specs.Select.{zeroAt}
 use Rattle.louds.specs.Nodes.{childrenOf, parentOf}
-use Rattle.louds.proofs.Laws.Nodes.{parent-of-child}
-use Rattle.louds.proofs.Laws.Degrees.{children-pack}
+use Rattle.louds.proofs.Laws.Nodes.{zeroAt-agree, parent-of-child}
+use Rattle.louds.proofs.Laws.Degrees.{zeroAt-sequence, children-pack}
 
 -- the bits of a map's image, and how many there are
 abbrev pub mapBits : Map → ℕ → ℕ
@@ -50,21 +54,41 @@ module _ (m : Map) (c : Catalogue m) where
       ∙ children-pack ds i l
       ∙ ap₂ Run (ap (λ (n : ℕ). n + 2) before) (getD-map (degree m) ([] ∷ prefixes m) i h)
 
+  pub zero-node : (k : ℕ) → 1 ≤ k → k ≤ length (nodes m) + 1 → (p : ℕ) × (zeroAt (mapBits m) (mapLength m) k ≡ At p)
+  unfolding imageBits nodes
+  zero-node zero l h = absurd (omega arith)
+  zero-node (suc j) l h =
+      let ds : List ℕ = map (degree m) ([] ∷ prefixes m) in
+      let xs : List ℕ = imageBits m in
+      let within : j ≤ length ds = omega (arith, length-map ([] ∷ prefixes m) (degree m)) in (
+        total (take j ds) + j + 1,
+        ap (λ (n : ℕ). zeroAt (mapBits m) n (suc j)) (sym (length-imageBits m c))
+            ∙ zeroAt-agree (mapBits m) (λ i. getD xs i 0) (length xs) (λ i b. bit-pack xs (sequence-small ds) i) (suc j)
+            ∙ ap (zeroAt (λ i. getD xs i 0) (length xs)) (sym (add-one j))
+            ∙ zeroAt-sequence ds j within,
+      )
+
   -- the children of node k: the first number, and the paths from there on
   pub record ChildrenOf (k : ℕ) : Type 0 where
     pub first : ℕ
     pub run : childrenOf (mapBits m) (mapLength m) k ≡ Run first (degree m (pathOf m k))
+    pub low : 2 ≤ first
+    pub high : first + degree m (pathOf m k) ≤ length (nodes m) + 1
     pub inside : (j : ℕ) → j < degree m (pathOf m k) → IsNode m (first + j)
     pub paths : (j : ℕ) → j < degree m (pathOf m k) → pathOf m (first + j) ≡ getD (childrenIn m (pathOf m k)) j []
 
   pub children-node : (k : ℕ) → IsNode m k → ChildrenOf k
+  unfolding nodes
   children-node zero (l, h) = absurd (omega arith)
   children-node (suc i) (l, h) =
       let inside : i < length (nodes m) = omega arith in
+      let room : sumBelow (degreeAt m) i + 2 + degreeAt m i ≤ length (nodes m) + 1 = omega (arith, children-room m c i inside) in
       record {
         first = sumBelow (degreeAt m) i + 2;
         run = ap (childrenOf (mapBits m) (mapLength m)) (omega arith) ∙ children-index i inside;
-        inside = λ j b. let (low, high) = child-inside m c i j inside b in (omega arith, omega arith);
+        low = omega arith;
+        high = room;
+        inside = λ j b. (omega arith, omega (arith, room));
         paths = λ j b. ap (pathOf m) (omega arith) ∙ pathOf-child m c i j inside b;
       }
 

@@ -13,6 +13,7 @@
 --     parent-told       what a parent's number tells of that one
 --     parent-of-child   each number of node k's run is a node whose parent is k
 --     child-of-parent   a node whose parent is k, which is not 0, is in node k's run
+--     sibling-behind    a node has a next sibling exactly if a one stands right behind its own
 --     children-follow   the run of node k + 1 begins where that of node k ends
 --     children-within   the numbers of a run are those of ones
 --     children-one      a number is in one run only
@@ -22,7 +23,7 @@
 --
 -- Assumes nothing.
 use mathlib.Core.Path.{_≡_, refl, sym, ap, ap₂, _∙_, subst}
-use mathlib.Core.Logic.{_⊎_, inl, inr, ⊎-elim}
+use mathlib.Core.Logic.{_↔_, _⊎_, inl, inr, ⊎-elim}
 use Prim.Native.Nat.{ℕ, _+_, _-_, _≤_, _<_}
 use native.Mathlib.Nat.{le-refl, le-trans, le-of-lt, lt-of-not-le, eq-or-lt-of-le}
 use native.Mathlib.Decide.{decLe}
@@ -189,6 +190,37 @@ module _ (b : ℕ → ℕ) (small : (i : ℕ) → b i ≤ 1) (len : ℕ) where
                 low = omega (arith, after, s, one, ones-zeros b small p, ones-zeros b small q, u .1 .zeros);
                 high = omega (arith, after, before, s, one, ones-zeros b small p, ones-zeros b small q, u .1 .zeros);
               }
+
+  -- the one of node m, a child of k, stands at place k + m - 1
+  pub sibling-behind : (k f c m : ℕ) → childrenOf b len k ≡ Run f c → f ≤ m → m < f + c → (m + 1 < f + c) ↔ ((k + m < len) × (b (k + m) ≡ 1))
+  sibling-behind k f c m e lo hi = (there, back)
+    where
+      own : (q : ℕ) × UpAt m k q
+      own = parent-told m k (parent-of-child k f c m e lo hi)
+
+      stands : Stands b len m (own .0)
+      stands = rank-kth b small len m (own .0) (own .1 .answer)
+
+      there : m + 1 < f + c → (k + m < len) × (b (k + m) ≡ 1)
+      there h =
+          let (q, u) = parent-told (m + 1) k (parent-of-child k f c (m + 1) e (omega arith) h) in
+          let s = rank-kth b small len (m + 1) q (u .answer) in
+          let at : q ≡ k + m = omega (arith, u .zeros, s .rank, ones-zeros b small q) in
+          (omega (arith, at, s .inside), ap b (sym at) ∙ s .marked)
+
+      back : (k + m < len) × (b (k + m) ≡ 1) → m + 1 < f + c
+      back (inside, one) =
+          let at : k + m ≡ own .0 + 1 = omega (arith, own .1 .zeros, stands .rank, ones-zeros b small (own .0)) in
+          let rank : onesBefore b (k + m) ≡ m = omega (arith, ap (onesBefore b) at, sumBelow-next b (own .0), stands .rank, stands .marked) in
+          let next : oneAt b len (m + 1) ≡ At (k + m) = ap (λ (n : ℕ). oneAt b len (n + 1)) (sym rank) ∙ kth-rank b small len (k + m) inside one in
+          let up : parentOf b len (m + 1) ≡ Node k = parent-at (m + 1) (k + m) next ∙ ap Node (omega arith) in
+          let told = children-told k f c e in
+          let pos : 0 < k = omega (arith, rank-kth (gap b) (gap-small b) len k (told .0) (told .1 .answer)) in
+          let run = child-of-parent (m + 1) k pos up in
+          let same = run .answer in
+          let first : f ≡ run .first = cc in
+          let count : c ≡ run .count = cc in
+          omega (arith, run .high, first, count)
 
   -- ---- orders
 

@@ -1,0 +1,120 @@
+-- Of each public call any two outcomes that its contract allows are equal: the answer, and each lent slice that it may write.
+-- Stated over the contract's own claim, so that a clause which is weakened or left out breaks it. Assumes nothing.
+use mathlib.Core.Path.{_≡_, sym, _∙_}
+use contract.Lifetimes.{Lfts}
+use denote.Ref.{now}
+use denote.Triple.Clauses.{AtExit}
+use borrow.Fn.Kinds.{endedOf}
+use borrow.Fn.World.{ArgsD, ResD}
+use Rattle.trie.proofs.Laws.Answers.{saidLooked-one, saidPrefixed-one, saidCommon-one, saidLongest-one, saidSpelled-one, saidResumed-one, saidValued-one, saidMeasured-one, saidStarted-one, saidStepped-one}
+use Rattle.trie.proofs.exact.exact_match
+use Rattle.trie.proofs.exact.exact_match.Kinds as exact-match-kinds
+use Rattle.trie.proofs.exact.exact_match.Reads as exact-match-reads
+use Rattle.trie.proofs.exact.set_value
+use Rattle.trie.proofs.exact.set_value.Kinds as set-value-kinds
+use Rattle.trie.proofs.exact.set_value.Reads as set-value-reads
+use Rattle.trie.proofs.exact.is_prefix
+use Rattle.trie.proofs.exact.is_prefix.Kinds as is-prefix-kinds
+use Rattle.trie.proofs.exact.is_prefix.Reads as is-prefix-reads
+use Rattle.trie.proofs.common_prefixes.common_prefix
+use Rattle.trie.proofs.common_prefixes.common_prefix.Kinds as common-prefix-kinds
+use Rattle.trie.proofs.common_prefixes.common_prefix.Reads as common-prefix-reads
+use Rattle.trie.proofs.common_prefixes.common_prefix_part
+use Rattle.trie.proofs.common_prefixes.common_prefix_part.Kinds as common-prefix-part-kinds
+use Rattle.trie.proofs.common_prefixes.common_prefix_part.Reads as common-prefix-part-reads
+use Rattle.trie.proofs.prefix.longest_prefix
+use Rattle.trie.proofs.prefix.longest_prefix.Kinds as longest-prefix-kinds
+use Rattle.trie.proofs.prefix.longest_prefix.Reads as longest-prefix-reads
+use Rattle.trie.proofs.place.resume
+use Rattle.trie.proofs.place.resume.Kinds as resume-kinds
+use Rattle.trie.proofs.place.resume.Reads as resume-reads
+use Rattle.trie.proofs.place.value
+use Rattle.trie.proofs.place.value.Kinds as value-kinds
+use Rattle.trie.proofs.place.value.Reads as value-reads
+use Rattle.trie.proofs.place.prefix_len
+use Rattle.trie.proofs.place.prefix_len.Kinds as prefix-len-kinds
+use Rattle.trie.proofs.place.prefix_len.Reads as prefix-len-reads
+use Rattle.trie.proofs.place.prefix
+use Rattle.trie.proofs.place.prefix.Kinds as prefix-kinds
+use Rattle.trie.proofs.place.prefix.Reads as prefix-reads
+use Rattle.trie.proofs.cursors.predictive_search
+use Rattle.trie.proofs.cursors.predictive_search.Kinds as predictive-search-kinds
+use Rattle.trie.proofs.cursors.predictive_search.Reads as predictive-search-reads
+use Rattle.trie.proofs.cursors.postfix_search
+use Rattle.trie.proofs.cursors.postfix_search.Kinds as postfix-search-kinds
+use Rattle.trie.proofs.cursors.postfix_search.Reads as postfix-search-reads
+use Rattle.trie.proofs.cursors.step
+use Rattle.trie.proofs.cursors.step.Kinds as step-kinds
+use Rattle.trie.proofs.cursors.step.Reads as step-reads
+use Rattle.trie.proofs.Cursor.top
+use Rattle.trie.proofs.Cursor.top.Kinds as top-kinds
+use Rattle.trie.proofs.Cursor.top.Reads as top-reads
+use Rattle.trie.proofs.Cursor.finished
+use Rattle.trie.proofs.Cursor.finished.Kinds as finished-kinds
+use Rattle.trie.proofs.Cursor.finished.Reads as finished-reads
+
+module _ (κs : Lfts 4) where
+  pub exact-match-determined : (a : ArgsD exact_match.signature κs) (r₁ r₂ : ResD exact_match.signature κs) (s₁ s₂ : AtExit (endedOf 4 exact-match-kinds.ps exact-match-kinds.r) κs)
+      → exact-match-reads.Post κs a r₁ s₁ → exact-match-reads.Post κs a r₂ s₂ → r₁ ≡ r₂
+  exact-match-determined a r₁ r₂ s₁ s₂ p q = saidLooked-one r₁ r₂ (p ∙ sym q)
+
+  pub set-value-determined : (a : ArgsD set_value.signature κs) (r₁ r₂ : ResD set_value.signature κs) (s₁ s₂ : AtExit (endedOf 4 set-value-kinds.ps set-value-kinds.r) κs)
+      → set-value-reads.Post κs a r₁ s₁ → set-value-reads.Post κs a r₂ s₂ → (r₁ ≡ r₂) × (now (s₁ .1 .0) ≡ now (s₂ .1 .0))
+  set-value-determined a r₁ r₂ s₁ s₂ p q = (saidLooked-one r₁ r₂ (p .0 ∙ sym (q .0)), p .1 ∙ sym (q .1))
+
+  pub is-prefix-determined : (a : ArgsD is_prefix.signature κs) (r₁ r₂ : ResD is_prefix.signature κs) (s₁ s₂ : AtExit (endedOf 4 is-prefix-kinds.ps is-prefix-kinds.r) κs)
+      → is-prefix-reads.Post κs a r₁ s₁ → is-prefix-reads.Post κs a r₂ s₂ → r₁ ≡ r₂
+  is-prefix-determined a r₁ r₂ s₁ s₂ p q = saidPrefixed-one r₁ r₂ (p ∙ sym q)
+
+  pub common-prefix-determined : (a : ArgsD common_prefix.signature κs) (r₁ r₂ : ResD common_prefix.signature κs) (s₁ s₂ : AtExit (endedOf 4 common-prefix-kinds.ps common-prefix-kinds.r) κs)
+      → common-prefix-reads.Post κs a r₁ s₁ → common-prefix-reads.Post κs a r₂ s₂ → r₁ ≡ r₂
+  common-prefix-determined a r₁ r₂ s₁ s₂ p q = saidCommon-one r₁ r₂ (p ∙ sym q)
+
+  pub common-prefix-part-determined : (a : ArgsD common_prefix_part.signature κs) (r₁ r₂ : ResD common_prefix_part.signature κs) (s₁ s₂ : AtExit (endedOf 4 common-prefix-part-kinds.ps common-prefix-part-kinds.r) κs)
+      → common-prefix-part-reads.Post κs a r₁ s₁ → common-prefix-part-reads.Post κs a r₂ s₂ → now r₁ ≡ now r₂
+  common-prefix-part-determined a r₁ r₂ s₁ s₂ p q = p ∙ sym q
+
+  pub predictive-search-determined : (a : ArgsD predictive_search.signature κs) (r₁ r₂ : ResD predictive_search.signature κs) (s₁ s₂ : AtExit (endedOf 4 predictive-search-kinds.ps predictive-search-kinds.r) κs)
+      → predictive-search-reads.Post κs a r₁ s₁ → predictive-search-reads.Post κs a r₂ s₂ → r₁ ≡ r₂
+  predictive-search-determined a r₁ r₂ s₁ s₂ p q = saidStarted-one r₁ r₂ (p ∙ sym q)
+
+  pub postfix-search-determined : (a : ArgsD postfix_search.signature κs) (r₁ r₂ : ResD postfix_search.signature κs) (s₁ s₂ : AtExit (endedOf 4 postfix-search-kinds.ps postfix-search-kinds.r) κs)
+      → postfix-search-reads.Post κs a r₁ s₁ → postfix-search-reads.Post κs a r₂ s₂ → r₁ ≡ r₂
+  postfix-search-determined a r₁ r₂ s₁ s₂ p q = saidStarted-one r₁ r₂ (p ∙ sym q)
+
+module _ (κs : Lfts 3) where
+  pub step-determined : (a : ArgsD step.signature κs) (r₁ r₂ : ResD step.signature κs) (s₁ s₂ : AtExit (endedOf 3 step-kinds.ps step-kinds.r) κs)
+      → step-reads.Post κs a r₁ s₁ → step-reads.Post κs a r₂ s₂ → r₁ ≡ r₂
+  step-determined a r₁ r₂ s₁ s₂ p q = saidStepped-one r₁ r₂ (p ∙ sym q)
+
+module _ (κs : Lfts 0) where
+  pub top-determined : (a : ArgsD top.signature κs) (r₁ r₂ : ResD top.signature κs) (s₁ s₂ : AtExit (endedOf 0 top-kinds.ps top-kinds.r) κs)
+      → top-reads.Post κs a r₁ s₁ → top-reads.Post κs a r₂ s₂ → r₁ ≡ r₂
+  top-determined a r₁ r₂ s₁ s₂ p q = p ∙ sym q
+
+  pub finished-determined : (a : ArgsD finished.signature κs) (r₁ r₂ : ResD finished.signature κs) (s₁ s₂ : AtExit (endedOf 0 finished-kinds.ps finished-kinds.r) κs)
+      → finished-reads.Post κs a r₁ s₁ → finished-reads.Post κs a r₂ s₂ → r₁ ≡ r₂
+  finished-determined a r₁ r₂ s₁ s₂ p q = p ∙ sym q
+
+module _ (κs : Lfts 3) where
+  pub resume-determined : (a : ArgsD resume.signature κs) (r₁ r₂ : ResD resume.signature κs) (s₁ s₂ : AtExit (endedOf 3 resume-kinds.ps resume-kinds.r) κs)
+      → resume-reads.Post κs a r₁ s₁ → resume-reads.Post κs a r₂ s₂ → r₁ ≡ r₂
+  resume-determined a r₁ r₂ s₁ s₂ p q = saidResumed-one r₁ r₂ (p ∙ sym q)
+
+  pub value-determined : (a : ArgsD value.signature κs) (r₁ r₂ : ResD value.signature κs) (s₁ s₂ : AtExit (endedOf 3 value-kinds.ps value-kinds.r) κs)
+      → value-reads.Post κs a r₁ s₁ → value-reads.Post κs a r₂ s₂ → r₁ ≡ r₂
+  value-determined a r₁ r₂ s₁ s₂ p q = saidValued-one r₁ r₂ (p ∙ sym q)
+
+  pub prefix-len-determined : (a : ArgsD prefix_len.signature κs) (r₁ r₂ : ResD prefix_len.signature κs) (s₁ s₂ : AtExit (endedOf 3 prefix-len-kinds.ps prefix-len-kinds.r) κs)
+      → prefix-len-reads.Post κs a r₁ s₁ → prefix-len-reads.Post κs a r₂ s₂ → r₁ ≡ r₂
+  prefix-len-determined a r₁ r₂ s₁ s₂ p q = saidMeasured-one r₁ r₂ (p ∙ sym q)
+
+module _ (κs : Lfts 4) where
+  pub prefix-determined : (a : ArgsD prefix.signature κs) (r₁ r₂ : ResD prefix.signature κs) (s₁ s₂ : AtExit (endedOf 4 prefix-kinds.ps prefix-kinds.r) κs)
+      → prefix-reads.Post κs a r₁ s₁ → prefix-reads.Post κs a r₂ s₂ → (r₁ ≡ r₂) × (now (s₁ .1 .1 .1 .1 .0) ≡ now (s₂ .1 .1 .1 .1 .0))
+  prefix-determined a r₁ r₂ s₁ s₂ p q = (saidSpelled-one r₁ r₂ (p .0 ∙ sym (q .0)), p .1 ∙ sym (q .1))
+
+module _ (κs : Lfts 5) where
+  pub longest-prefix-determined : (a : ArgsD longest_prefix.signature κs) (r₁ r₂ : ResD longest_prefix.signature κs) (s₁ s₂ : AtExit (endedOf 5 longest-prefix-kinds.ps longest-prefix-kinds.r) κs)
+      → longest-prefix-reads.Post κs a r₁ s₁ → longest-prefix-reads.Post κs a r₂ s₂ → (r₁ ≡ r₂) × (now (s₁ .1 .1 .1 .1 .0) ≡ now (s₂ .1 .1 .1 .1 .0))
+  longest-prefix-determined a r₁ r₂ s₁ s₂ p q = (saidLongest-one r₁ r₂ (p .0 ∙ sym (q .0)), p .1 ∙ sym (q .1))

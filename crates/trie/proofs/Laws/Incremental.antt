@@ -1,0 +1,154 @@
+-- What the calls on a place say, by cases, and what that is on the map. Keys and paths go on by labels, so how far a query leads is told by the last of its leading parts
+-- that is a path.
+--
+--     pathSays-is       what a path is, by whether longer keys begin with it and whether it is a key; `leaf-valued`: a path but the root's is one or the other
+--     walkable-is       how many labels lead on: so many that these are a path, and one more is not
+--     follow-empty, follow-whole, follow-failed    what `query_until` says of them
+--     goto-none, goto-some     what goto says, by whether longer keys begin with the path, and whether their common prefix is one of them
+--     promise-refused, promise-strange, promise-kept    a promise by the tests that come first
+-- Assumes nothing.
+use mathlib.Core.Path.{_≡_, refl, sym, ap, _∙_}
+use mathlib.Core.Logic.{⊎-elim}
+use Prim.Native.Nat.{ℕ, zero, suc, _+_, _-_, _≤_, _<_}
+use native.Mathlib.Omega.{arith}
+use mathlib.Core.Bool.{Bool, true, false, cond, true≢false}
+use mathlib.Core.List.{List, [], _∷_, _++_, append-assoc}
+use mathlib.Core.Option.{Option, none, some}
+use lib.ListN.{length, take}
+use Rattle.keymap.specs.Members.{In}
+use Rattle.keymap.specs.Key.{Key, PrefixOf, extends}
+use Rattle.keymap.specs.Refusals.{refusalNumber, NotAnImage, BadPlace}
+use Rattle.keymap.specs.Map.{Map, Rising, lookup}
+use Rattle.keymap.specs.Queries.{nonempty, SomeBegins, longer, isPrefixIn}
+use Rattle.keymap.specs.Image.{Image, childrenIn}
+use Rattle.keymap.specs.Paths.{nodes, IsNode, isNode, pathOf, nodeOf, isPath}
+use Rattle.keymap.specs.Decode.{imageMap}
+use Rattle.keymap.proofs.Laws.Begins.{prefix-iff, prefix-leading, extends-iff}
+use Rattle.keymap.proofs.Laws.Queries.{lookup-longer}
+use Rattle.keymap.proofs.Laws.Paths.{pathOf-root, pathOf-in, nodes-iff, nodes-prefix, isPath-iff, nodeOf-root, nodeOf-pathOf, childrenIn-some}
+use Rattle.keymap.proofs.Laws.Common.{ends-valued}
+use Rattle.image.specs.AcceptTest.{imageTest}
+use Rattle.trie.specs.Cursors.{given}
+use Rattle.trie.specs.Incremental.{saysOk, saysErr, placeAt, onPlace, fromPlace, pathSays, queryIn, querySays, queryMoves, walkable, followIn, followSays, followMoves, commonBelow, gotoIn, gotoSays, gotoMoves, Promise}
+
+-- ---- what a path is
+
+pub pathSays-is : (m : Map) (p : Key) (b : Bool) (w : Option ℕ) → isPrefixIn p m ≡ b → lookup p m ≡ w → pathSays m p ≡ cond b 1 0 + cond (given w) 2 0
+unfolding pathSays
+pathSays-is m p b w e f = rw (e, f)
+
+-- a node but the root has a path that some key begins with
+pub someBegins-node : (m : Map) → Rising m → (k : ℕ) → IsNode m k → 2 ≤ k → SomeBegins (pathOf m k) m
+someBegins-node m r k n l = ⊎-elim at-root (λ (b : SomeBegins (pathOf m k) m). b) (nodes-iff m (pathOf m k) .0 (pathOf-in m k n))
+  where
+    at-root : pathOf m k ≡ [] → SomeBegins (pathOf m k) m
+    at-root e = absurd (omega (arith, sym (nodeOf-pathOf m r k n) ∙ ap (nodeOf m) e ∙ nodeOf-root m))
+
+-- and no longer key begins with it only where it is a key
+pub leaf-valued : (m : Map) → Rising m → (k : ℕ) → IsNode m k → 2 ≤ k → isPrefixIn (pathOf m k) m ≡ false → (v : ℕ) × (lookup (pathOf m k) m ≡ some v)
+leaf-valued m r k n l e = ends-valued m r (pathOf m k) (someBegins-node m r k n l) (bare (childrenIn m (pathOf m k)) (childrenIn-some m (pathOf m k) ∙ e))
+  where
+    bare : (ps : List Key) → nonempty ps ≡ false → ps ≡ []
+    bare [] f = refl
+    bare (p ∷ ps) f = absurd (true≢false f)
+
+-- a path of one label or more is no root's
+pub longer-node : (m : Map) (k : ℕ) → IsNode m k → 0 < length (pathOf m k) → 2 ≤ k
+longer-node m zero n l = absurd (omega (arith, n))
+longer-node m (suc zero) n l = absurd (omega (arith, ap length (pathOf-root m)))
+longer-node m (suc (suc k)) n l = omega arith
+
+-- ---- how far a query leads
+
+module _ (m : Map) where
+  pub path-not : (p : Key) → ¬ In p (nodes m) → isPath m p ≡ false
+  path-not p n = go (isPath m p) refl
+    where
+      go : (t : Bool) → isPath m p ≡ t → isPath m p ≡ false
+      go true e = absurd (n (isPath-iff m p .0 e))
+      go false e = e
+
+  pub walkable-is : (q p : Key) (j : ℕ) → In (p ++ take j q) (nodes m) → j ≤ length q → (j < length q → ¬ In (p ++ take (suc j) q) (nodes m)) → walkable m p q ≡ j
+  unfolding walkable
+  walkable-is [] p j on l past = omega arith
+  walkable-is (a ∷ q) p zero on l past = rw (path-not (p ++ (a ∷ [])) (past (omega arith)))
+  walkable-is (a ∷ q) p (suc j) on l past =
+      let join : (r : Key) → (p ++ (a ∷ [])) ++ r ≡ p ++ (a ∷ r) = λ r. append-assoc p (a ∷ []) r in
+      let begins : PrefixOf (p ++ (a ∷ [])) (p ++ (a ∷ take j q)) = prefix-iff (p ++ (a ∷ [])) (p ++ (a ∷ take j q)) .1 (take j q, sym (join (take j q))) in
+      let there : isPath m (p ++ (a ∷ [])) ≡ true = isPath-iff m (p ++ (a ∷ [])) .1 (nodes-prefix m (p ++ (a ∷ [])) (p ++ (a ∷ take j q)) begins on) in
+      let rest : walkable m (p ++ (a ∷ [])) q ≡ j =
+      walkable-is q (p ++ (a ∷ [])) j (rw (join (take j q)) on) (omega arith) (λ b n. past (omega arith) (rw (join (take (suc j) q)) at n)) in
+      rw there (ap suc rest)
+
+  pub follow-empty : (p q : Key) → length q ≡ 0 → followIn m p q ≡ saysErr 0
+  follow-empty p [] e = refl
+  follow-empty p (a ∷ q) e = absurd (omega arith)
+
+  pub follow-whole : (p q : Key) → 0 < length q → In (p ++ q) (nodes m) → followIn m p q ≡ saysOk (pathSays m (p ++ q))
+  follow-whole p [] l n = absurd (omega arith)
+  follow-whole p (a ∷ q) l n = rw (isPath-iff m (p ++ (a ∷ q)) .1 n)
+
+  pub follow-failed : (p q : Key) (j : ℕ) → j < length q → In (p ++ take j q) (nodes m) → ¬ In (p ++ take (suc j) q) (nodes m) → followIn m p q ≡ saysErr j
+  follow-failed p [] j l on past = absurd (omega arith)
+  follow-failed p (a ∷ q) j l on past = rw (path-not (p ++ (a ∷ q)) (λ n. past (nodes-prefix m (p ++ take (suc j) (a ∷ q)) (p ++ (a ∷ q)) within n))) (ap saysErr (walkable-is (a ∷ q) p j on (omega arith) (λ b. past)))
+    where
+      within : PrefixOf (p ++ take (suc j) (a ∷ q)) (p ++ (a ∷ q))
+      within =
+          let (r, e) = prefix-iff (take (suc j) (a ∷ q)) (a ∷ q) .0 (prefix-leading (suc j) (a ∷ q)) in
+          prefix-iff (p ++ take (suc j) (a ∷ q)) (p ++ (a ∷ q)) .1 (r, ap (λ (x : Key). p ++ x) e ∙ sym (append-assoc p (take (suc j) (a ∷ q)) r))
+
+-- ---- goto
+
+module _ (m : Map) (p : Key) where
+  pub goto-none : isPrefixIn p m ≡ false → gotoIn m p ≡ saysOk 0
+  goto-none e = rw e
+
+  pub goto-some : (q : Key) (w : Option ℕ) → isPrefixIn p m ≡ true → commonBelow m p ≡ q → lookup q (longer p m) ≡ w
+      → gotoIn m p ≡ cond (given w) (saysOk (length q - length p)) (saysErr (length q - length p))
+  goto-some q w e f g = rw (e, f, g)
+
+-- the longer keys have no value at the path itself
+pub lookup-longer-same : (m : Map) → Rising m → (p : Key) → lookup p (longer p m) ≡ none
+lookup-longer-same m r p = lookup-longer p m r p ∙ rw (shorter (extends p p) refl)
+  where
+    shorter : (t : Bool) → extends p p ≡ t → extends p p ≡ false
+    shorter true e = absurd (omega (arith, extends-iff p p .0 e .1))
+    shorter false e = e
+
+-- and the values of the map behind it
+pub lookup-longer-behind : (m : Map) → Rising m → (p q : Key) → PrefixOf p q → length p < length q → lookup q (longer p m) ≡ lookup q m
+lookup-longer-behind m r p q b l = lookup-longer p m r q ∙ rw (extends-iff p q .1 (b, l))
+
+-- ---- promises
+
+module _ (i : Image) (k : ℕ) (says : List ℕ) (to : ℕ) where
+  pub promise-refused : imageTest i ≡ false → Promise (refusalNumber NotAnImage ∷ []) (onPlace i k says) (placeAt k) (fromPlace i k to)
+  promise-refused e = record { answers = rw e; stands = rw e }
+
+  pub promise-strange : imageTest i ≡ true → isNode (imageMap i) k ≡ false → Promise (refusalNumber BadPlace ∷ []) (onPlace i k says) (placeAt k) (fromPlace i k to)
+  promise-strange e f = record { answers = rw (e, f); stands = rw (e, f) }
+
+  pub promise-kept : imageTest i ≡ true → isNode (imageMap i) k ≡ true → (said : List ℕ) (node : ℕ) → said ≡ says → node ≡ to
+      → Promise said (onPlace i k says) (placeAt node) (fromPlace i k to)
+  promise-kept e f said node g h = record { answers = rw (e, f) g; stands = rw (e, f) (ap placeAt h) }
+
+pub query-promise : (i : Image) (k a : ℕ) (said : List ℕ) (node : ℕ)
+    → Promise said (onPlace i k (queryIn (imageMap i) (pathOf (imageMap i) k ++ (a ∷ [])))) (placeAt node)
+    (fromPlace i k (cond (isPath (imageMap i) (pathOf (imageMap i) k ++ (a ∷ []))) (nodeOf (imageMap i) (pathOf (imageMap i) k ++ (a ∷ []))) k))
+    → Promise said (querySays i k a) (placeAt node) (queryMoves i k a)
+unfolding querySays queryMoves
+query-promise i k a said node p = p
+
+pub follow-promise : (i : Image) (k : ℕ) (q : Key) (said : List ℕ) (node : ℕ)
+    → Promise said (onPlace i k (followIn (imageMap i) (pathOf (imageMap i) k) q)) (placeAt node)
+    (fromPlace i k (nodeOf (imageMap i) (pathOf (imageMap i) k ++ take (walkable (imageMap i) (pathOf (imageMap i) k) q) q)))
+    → Promise said (followSays i k q) (placeAt node) (followMoves i k q)
+unfolding followSays followMoves
+follow-promise i k q said node p = p
+
+pub goto-promise : (i : Image) (k : ℕ) (said : List ℕ) (node : ℕ)
+    → Promise said (onPlace i k (gotoIn (imageMap i) (pathOf (imageMap i) k))) (placeAt node)
+    (fromPlace i k (cond (isPrefixIn (pathOf (imageMap i) k) (imageMap i)) (nodeOf (imageMap i) (commonBelow (imageMap i) (pathOf (imageMap i) k))) k))
+    → Promise said (gotoSays i k) (placeAt node) (gotoMoves i k)
+unfolding gotoSays gotoMoves
+goto-promise i k said node p = p

@@ -1,0 +1,24 @@
+-- `trie::cursors::is_node` meets its contract: the nodes are numbered from 1 to n + 1. Assumes nothing.
+use mathlib.Core.Path.{sym}
+use borrow.Author.Needs.{needs}
+use Rattle.keymap.specs.Decode.{imageMap}
+use Rattle.image.specs.Meaning.{lent}
+use Rattle.trie.proofs.Laws.Cursors.{isNode-zero, isNode-upto}
+use Rattle.trie.proofs.cursors.is_node.Statement.{statement}
+use Rattle.trie.proofs.cursors.is_node.Tie as tie
+
+returns : tie.Need-returns
+returns c =
+    let a = c .before .args in
+    sym (isNode-zero (imageMap (lent (a .labels .now) (a .values .now) (a .words .now))) (a .node) (c .if1 .taken))
+
+add-result : tie.Need-add-result
+add-result c = search needs
+
+returns-2 : tie.Need-returns-2
+returns-2 c =
+    let a = c .before .args in
+    sym (isNode-upto (lent (a .labels .now) (a .values .now) (a .words .now)) (c .before .pre) (a .node) (c .if1 .left))
+
+pub is-node-spec : {M : Type 1} → statement M
+is-node-spec = tie.close (tie.spec returns add-result returns-2)

@@ -1,0 +1,2 @@
+-- What the walks over a lent place share. Assumes nothing.
+pub mod Held

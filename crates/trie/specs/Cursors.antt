@@ -1,0 +1,99 @@
+-- Listings (01, module 6). "Predictive start gives a cursor over the keys beginning with the query, postfix start over those that are longer; no path gives
+-- a finished cursor, and so does an empty set. A step answers the least key of its set above the last one given, as node and value, with the next cursor.
+-- A step on a finished cursor ends at once, and again each time. After the last key the end comes with a finished cursor."
+--
+--     setOf         the keys of a listing
+--     belongs       "fresh at a top (a node from 1 to n+1), at a valued node of that top's set, or finished"
+--     startSays     the start of a listing
+--     nextIn        the entry that the next step gives
+--     stepSays      a step
+--     keySays       the key of a cursor at a node, "in postfix listings from after the query"
+-- Assumes nothing.
+use Prim.Native.Nat.{ℕ, zero, suc}
+use mathlib.Core.Bool.{Bool, true, false, cond, _&&_}
+use mathlib.Core.List.{List, [], _∷_, head?}
+use mathlib.Core.Option.{Option, none, some}
+use lib.ListN.{length, drop}
+use Rattle.keymap.specs.Key.{Key}
+use Rattle.keymap.specs.Refusals.{refusalNumber, BadPlace}
+use Rattle.keymap.specs.Map.{Entry, Map, lookup}
+use Rattle.keymap.specs.Queries.{nonempty, beginning, longer, leastAbove}
+use Rattle.keymap.specs.Image.{Image}
+use Rattle.keymap.specs.Paths.{isNode, pathOf, nodeOf}
+use Rattle.keymap.specs.Decode.{imageMap}
+use Rattle.image.specs.AcceptTest.{imageTest}
+use Rattle.trie.specs.declared.Kind.{Kind}
+use Rattle.trie.specs.declared.Kind.the-variants as kinds
+use Rattle.trie.specs.declared.Cursor.{Cursor}
+use Rattle.trie.specs.declared.Cursor.the-variants.{Open, Finished}
+use Rattle.trie.specs.Answers.{onImage, saidCursor}
+use Rattle.trie.specs.Prefix.{saysWritten, writtenTo}
+
+abbrev pub setOf : Map → Kind → Key → Map
+setOf m kinds.Predictive p = beginning p m
+setOf m kinds.Postfix p = longer p m
+
+abbrev pub given : Option ℕ → Bool
+given none = false
+given (some v) = true
+
+-- 0 says that nothing was given yet
+abbrev pub lastBelongs : Map → Map → ℕ → Bool
+lastBelongs m set zero = true
+lastBelongs m set (suc k) = isNode m (suc k) && given (lookup (pathOf m (suc k)) set)
+
+unfoldable pub belongs : Map → Cursor → Bool
+belongs m (Open kind top last) = isNode m top && lastBelongs m (setOf m kind (pathOf m top)) last
+belongs m (Finished kind) = true
+
+-- what a call says of a cursor that belongs, and refusal 7 of any other
+abbrev pub onCursor : Map → Cursor → List ℕ → List ℕ
+onCursor m c says = cond (belongs m c) says (refusalNumber BadPlace ∷ [])
+
+unfoldable pub startSays : Kind → Image → Key → List ℕ
+startSays kind i q =
+    let m = imageMap i in
+    onImage i (0 ∷ saidCursor (cond (nonempty (setOf m kind q)) (Open kind (nodeOf m q) 0) (Finished kind)))
+
+abbrev pub nextIn : Map → Map → ℕ → Option Entry
+nextIn m set zero = head? set
+nextIn m set (suc k) = leastAbove (pathOf m (suc k)) set
+
+-- the end, which comes with a finished cursor
+abbrev pub saysEnd : Kind → List ℕ
+saysEnd kind = 0 ∷ 0 ∷ saidCursor (Finished kind)
+
+abbrev pub saysStep : Map → Kind → ℕ → Option Entry → List ℕ
+saysStep m kind top none = saysEnd kind
+saysStep m kind top (some e) = 0 ∷ nodeOf m (e .0) ∷ e .1 ∷ saidCursor (Open kind top (nodeOf m (e .0)))
+
+abbrev pub stepIn : Map → Cursor → List ℕ
+stepIn m (Open kind top last) = saysStep m kind top (nextIn m (setOf m kind (pathOf m top)) last)
+stepIn m (Finished kind) = saysEnd kind
+
+unfoldable pub stepSays : Image → Cursor → List ℕ
+stepSays i c = onImage i (onCursor (imageMap i) c (stepIn (imageMap i) c))
+
+-- the key that a cursor has given last, if it has given one and is not finished
+abbrev pub keyFrom : Map → Kind → ℕ → ℕ → Option Key
+keyFrom m kind top zero = none
+keyFrom m kinds.Predictive top (suc k) = some (pathOf m (suc k))
+keyFrom m kinds.Postfix top (suc k) = some (drop (length (pathOf m top)) (pathOf m (suc k)))
+
+abbrev pub keyOf : Map → Cursor → Option Key
+keyOf m (Open kind top last) = keyFrom m kind top last
+keyOf m (Finished kind) = none
+
+abbrev pub saysKey : Option Key → List ℕ → List ℕ
+saysKey none out = refusalNumber BadPlace ∷ []
+saysKey (some k) out = saysWritten k out
+
+abbrev pub writtenKey : Option Key → List ℕ → List ℕ
+writtenKey none out = out
+writtenKey (some k) out = writtenTo k out
+
+unfoldable pub keySays : Image → Cursor → List ℕ → List ℕ
+keySays i c out = onImage i (onCursor (imageMap i) c (saysKey (keyOf (imageMap i) c) out))
+
+unfoldable pub keyOut : Image → Cursor → List ℕ → List ℕ
+keyOut i c out = cond (imageTest i) (cond (belongs (imageMap i) c) (writtenKey (keyOf (imageMap i) c) out) out) out

@@ -1,0 +1,13 @@
+pub mod Answers
+pub mod Walk
+pub mod Exact
+pub mod Prefix
+pub mod CommonPrefixes
+pub mod Steps
+pub mod Spelling
+pub mod Glide
+pub mod Cursors
+pub mod Listing
+pub mod Incremental
+pub mod Places
+pub mod Moves

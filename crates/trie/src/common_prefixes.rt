@@ -1,0 +1,114 @@
+// The keys that are prefixes of a query, after `src/iter/prefix_iter.rs`: one call for each, with the length that was seen already.
+// A seen length at or past the query's end gives no match, and nothing is added to it.
+ghost use mathlib.Core.Path.{_≡_};
+ghost use Rattle.keymap.specs.Map.{lookup};
+ghost use Rattle.keymap.specs.Queries.{commonPrefixIn};
+ghost use Rattle.keymap.specs.Paths.{IsNode, pathOf};
+ghost use Rattle.keymap.specs.Decode.{imageMap};
+ghost use Rattle.image.specs.Meaning.{lent, MapImage};
+ghost use Rattle.trie.specs.Answers.{saidCommon};
+ghost use Rattle.trie.specs.Walk.{heldValue};
+ghost use Rattle.trie.specs.CommonPrefixes.{unlessSeen, saysCommon, commonSays, partLength, commonPart};
+use crate::Common;
+use crate::walk::Held;
+use crate::walk::Reached;
+use crate::walk::down;
+use crate::walk::stand_at;
+use crate::walk::value_at;
+use image::is_image;
+
+// The value of a node at a depth, unless that much was seen.
+fn unseen_value(
+    labels: &[u16],
+    values: &[u32],
+    words: &[u64],
+    node: usize,
+    depth: usize,
+    seen: usize,
+) -> Held
+    requires { ⌜ MapImage (lent (now labels) (now values) (now words)) ⌝ }
+    requires { ⌜ IsNode (imageMap (lent (now labels) (now values) (now words))) node ⌝ }
+    ensures { λ r.
+        ⌜
+        heldValue r
+        ≡ unlessSeen seen depth
+        (lookup (pathOf (imageMap (lent (now (labels .entry)) (now (values .entry)) (now (words .entry)))) node)
+        (imageMap (lent (now (labels .entry)) (now (values .entry)) (now (words .entry)))))
+        ⌝ }
+{
+    if depth <= seen {
+        return Held::NoValue;
+    }
+    value_at(labels, values, words, node)
+}
+
+// The shortest key, by a walk down the query that stops at the first value past what was seen.
+fn shortest(labels: &[u16], values: &[u32], words: &[u64], query: &[u8], seen: usize) -> Common
+    requires { ⌜ MapImage (lent (now labels) (now values) (now words)) ⌝ }
+    ensures { λ r.
+        ⌜
+        saidCommon r
+        ≡ saysCommon (commonPrefixIn (now (query .entry)) seen (imageMap (lent (now (labels .entry)) (now (values .entry)) (now (words .entry)))))
+        ⌝ }
+{
+    let mut s = stand_at(labels, values, words, 1);
+    let mut depth: usize = 0;
+    while depth < query.len() {
+        let Reached::To(t) = down(labels, values, words, s, query[depth]) else {
+            return Common::NoMatch;
+        };
+        s = t;
+        depth += 1;
+        match unseen_value(labels, values, words, t.node, depth, seen) {
+            Held::Value(value) => {
+                return Common::Match {
+                    length: depth,
+                    value,
+                };
+            }
+            Held::NoValue => {}
+        }
+    }
+    Common::NoMatch
+}
+
+// The shortest key that is a prefix of the query and longer than what was seen: its length and value.
+pub fn common_prefix(
+    labels: &[u16],
+    values: &[u32],
+    words: &[u64],
+    query: &[u8],
+    seen: usize,
+) -> Common
+    ensures answer { λ r. ⌜ saidCommon r ≡ commonSays (lent (now (labels .entry)) (now (values .entry)) (now (words .entry))) (now (query .entry)) seen ⌝ }
+{
+    if !is_image(labels, values, words) {
+        return Common::NotAnImage;
+    }
+    shortest(labels, values, words, query, seen)
+}
+
+fn part_length(found: Common) -> usize
+    ensures { λ r. ⌜ r ≡ partLength found ⌝ }
+{
+    match found {
+        Common::Match { length, value: _ } => length,
+        Common::NoMatch => 0,
+        Common::NotAnImage => 0,
+    }
+}
+
+// That key as the leading part of the query itself, empty where `common_prefix` refuses or has no match.
+pub fn common_prefix_part<'a>(
+    labels: &[u16],
+    values: &[u32],
+    words: &[u64],
+    query: &'a [u8],
+    seen: usize,
+) -> &'a [u8]
+    ensures part { λ r. ⌜ now r ≡ commonPart (lent (now (labels .entry)) (now (values .entry)) (now (words .entry))) (now (query .entry)) seen ⌝ }
+{
+    let found = common_prefix(labels, values, words, query, seen);
+    let length = part_length(found);
+    &query[..length]
+}

@@ -5,6 +5,7 @@
 --     insert-iff            the same of its entries
 --     insert-comm           different keys go in in either order
 --     insertAll-last        of entries in turn the last is inserted last
+--     insertAll-self        the entries of a rising map, inserted in turn into the empty map, are that map
 --     insert-catalogue      an insert of a nonempty key keeps a catalogue
 --     map-ext               two maps with the same look-ups are one list, and `map-members` with the same entries
 --     rising-iff            each entry stands below all behind it
@@ -13,7 +14,7 @@
 -- Assumes nothing.
 use mathlib.Core.Path.{_≡_, refl, sym, ap, _∙_}
 use Prim.Native.Nat.{ℕ, _<_, Ordering, Ordering·lt, Ordering·eq, Ordering·gt}
-use mathlib.Core.List.{List, [], _∷_, _++_, List-discrete, Memᴰ·cast, List·Memᴰ·cases-cons, List·Memᴰ·not-nil}
+use mathlib.Core.List.{List, [], _∷_, _++_, append-assoc, append-nil, List-discrete, Memᴰ·cast, Memᴰ·append-right, List·Memᴰ·cases-cons, List·Memᴰ·not-nil}
 use native.Mathlib.Decide.{ℕ-discrete}
 use mathlib.Core.Option.{none, some, Option, Option·none-ne-some, Option·some-injective}
 use Rattle.keymap.specs.Limits.{valueLimit}
@@ -238,6 +239,38 @@ pub insertAll-rising : (es m : Map) → Rising m → Rising (insertAll es m)
 unfolding insertAll
 insertAll-rising [] m r = r
 insertAll-rising (e ∷ es) m r = insertAll-rising es (insert (e .0) (e .1) m) (insert-rising (e .0) (e .1) m r)
+
+before-left : (k : Key) (m n : Map) → Before k (m ++ n) → Before k m
+before-left k [] n b = tt
+before-left k (e ∷ m) n b = b
+
+rising-left : (m n : Map) → Rising (m ++ n) → Rising m
+rising-left [] n r = tt
+rising-left (e ∷ m) n r = (before-left (e .0) m n (r .0), rising-left m n (r .1))
+
+-- a key above all others goes in at the end
+insert-end : (m : Map) (e : Entry) → Rising (m ++ (e ∷ [])) → insert (e .0) (e .1) m ≡ m ++ (e ∷ [])
+unfolding insert
+insert-end [] e r = refl
+insert-end (d ∷ m) e r =
+    go (keyOrder (e .0) (d .0)) (before-all (d .0) (m ++ (e ∷ [])) (r .0) (r .1) e (Memᴰ·append-right m (here refl))) (insert-end m e (r .1))
+  where
+    go : KeyOrder (e .0) (d .0) → Below (d .0) (e .0) → insert (e .0) (e .1) m ≡ m ++ (e ∷ []) → insert (e .0) (e .1) (d ∷ m) ≡ d ∷ m ++ (e ∷ [])
+    go (KeyOrder.below p q) b ih = absurd (below-asym (e .0) (d .0) p b)
+    go (KeyOrder.same s p) b ih = absurd (below-irrefl (d .0) (rw s at b))
+    go (KeyOrder.above p q) b ih = rw p (λ i. d ∷ ih i)
+
+insertAll-append : (es m : Map) → Rising (m ++ es) → insertAll es m ≡ m ++ es
+unfolding insertAll
+insertAll-append [] m r = sym (append-nil m)
+insertAll-append (e ∷ es) m r =
+    let whole : (m ++ (e ∷ [])) ++ es ≡ m ++ (e ∷ es) = append-assoc m (e ∷ []) es in
+    let up : Rising ((m ++ (e ∷ [])) ++ es) = rw whole r in
+    let last = insert-end m e (rising-left (m ++ (e ∷ [])) es up) in
+    ap (insertAll es) last ∙ insertAll-append es (m ++ (e ∷ [])) up ∙ whole
+
+pub insertAll-self : (m : Map) → Rising m → insertAll m [] ≡ m
+insertAll-self m r = insertAll-append m [] r
 
 -- ---- what a catalogue may hold
 

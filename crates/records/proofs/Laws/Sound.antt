@@ -5,6 +5,9 @@
 --     chain-same, rises-same           what two pools with the same links, or labels, have in common
 --     rises-above, rises-distinct      labels that rise
 --     children-most                    a record has no more children than there are records
+--     used-within                      the records in use are no more than capacity
+--     none-in-use                      where none is counted none is in use
+--     parent-in-use                    the parent of a record in use is the root or in use
 -- Assumes nothing.
 use Prim.Native.Nat.{ℕ, _+_, _≤_, _<_}
 use mathlib.Core.Path.{_≡_, refl, sym, _∙_, ap, subst}
@@ -12,9 +15,10 @@ use mathlib.Core.List.{List, [], _∷_}
 use mathlib.Core.Logic.{inl, inr}
 use lib.ListN.{length}
 use native.Mathlib.Omega.{arith}
-use Rattle.records.specs.Words.{Pool, label, lastRecord}
-use Rattle.records.specs.Sound.{In, Chain, LabelsRise, Children}
+use Rattle.records.specs.Words.{Pool, label, parent, lastRecord, usedCount, InUse, Node, capacity}
+use Rattle.records.specs.Sound.{In, Chain, LabelsRise, Children, Sound}
 use Rattle.records.proofs.Laws.Distinct.{Once, once-at-most}
+use Rattle.records.proofs.Laws.Words.{count-last, parent-node}
 
 module _ (f : ℕ → ℕ) where
   pub chain-unique : (c : ℕ) (xs ys : List ℕ) → Chain f c xs → Chain f c ys → xs ≡ ys
@@ -75,3 +79,13 @@ rises-distinct p l (x ∷ xs) r =
 
 pub children-most : (p : Pool) (c : ℕ) (k : Children p c) → length (k .kids) ≤ lastRecord p
 children-most p c k = once-at-most (lastRecord p) (k .kids) (rises-distinct p 0 (k .kids) (k .rising)) (λ x m. k .only x m .0)
+
+module _ (p : Pool) (s : Sound p) where
+  pub used-within : usedCount p ≤ capacity p
+  used-within = omega (arith, count-last p, s .within)
+
+  pub none-in-use : usedCount p ≡ 0 → (c : ℕ) → InUse p c → ⊥
+  none-in-use e c u = omega (arith, count-last p, u .0, u .1)
+
+  pub parent-in-use : (c : ℕ) → InUse p c → Node p (parent p c)
+  parent-in-use c u = parent-node p c u (s .fits c u .parent-below)

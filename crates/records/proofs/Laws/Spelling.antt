@@ -20,24 +20,22 @@ use lib.ListN.{length}
 use borrow.Author.Tests.{eq-eqb, ne-eqb}
 use Rattle.keymap.specs.Key.{Key}
 use Rattle.records.specs.Words.{Pool, label, parent, lastRecord, InUse, Node}
-use Rattle.records.specs.Sound.{In, Chain, LabelsRise, Fits, Children, Sound}
+use Rattle.records.specs.Sound.{In, Chain, LabelsRise, Children, Sound}
 use Rattle.records.specs.Spelling.{ChildBy, Spells, pathUp, pathOf, Climbs}
 use Rattle.records.proofs.Laws.Distinct.{equal-or-not, once-at-most}
-use Rattle.records.proofs.Laws.Words.{parent-node}
-use Rattle.records.proofs.Laws.Sound.{chain-distinct, rises-above}
+use Rattle.records.proofs.Laws.Sound.{chain-distinct, rises-above, parent-in-use}
 
--- ---- the way up
-climbs-from : (p : Pool) → ((c : ℕ) → InUse p c → Fits p c) → (m c : ℕ) → c < m → Node p c → Climbs p c
-climbs-from p F zero c h n = absurd (omega arith)
-climbs-from p F (suc m) c h (inl e) = record { up = []; chain = e; used = λ x i. absurd i }
-climbs-from p F (suc m) c h (inr u) =
-    let low = F c u .parent-below in
-    let above = climbs-from p F m (parent p c) (omega arith) (parent-node p c u low) in
+-- ---- the way up: it ends since "the parent's number is below its own"
+climbs-from : (p : Pool) → Sound p → (m c : ℕ) → c < m → Node p c → Climbs p c
+climbs-from p s zero c h n = absurd (omega arith)
+climbs-from p s (suc m) c h (inl e) = record { up = []; chain = e; used = λ x i. absurd i }
+climbs-from p s (suc m) c h (inr u) =
+    let low = s .fits c u .parent-below in
+    let above = climbs-from p s m (parent p c) (omega arith) (parent-in-use p s c u) in
     record { up = c ∷ above .up; chain = (refl, u .0, above .chain); used = λ x i. ⊎-elim (λ (e : x ≡ c). subst (InUse p) (sym e) u) (λ j. above .used x j) i }
 
--- the one law that leans on "the parent's number is below its own"
 pub sound-climbs : (p : Pool) → Sound p → (c : ℕ) → Node p c → Climbs p c
-sound-climbs p s c n = climbs-from p (s .fits) (suc c) c (omega arith) n
+sound-climbs p s c n = climbs-from p s (suc c) c (omega arith) n
 
 -- ---- ways one behind the other
 module _ (p : Pool) where

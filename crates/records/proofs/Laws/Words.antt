@@ -1,6 +1,7 @@
 -- Laws of the words of a pool: two words of a pool are one place only if they are one word of one record, so a word that is put changes no other.
 --
 --     word-beyond                      beyond the pool's end every word is 0
+--     word-at                          each word of the slice is some record's
 --     word-put-same, word-put-other    what a put leaves of the words
 --     length-put                       it leaves the length
 --     last-put-other                   what it leaves of the last record
@@ -8,15 +9,17 @@
 --     node-within, within-node         the root and the records in use are those up to the last
 --     parent-node                      a parent with a lower number is the root or in use
 --     next-last, next-unused           the record that is taken next is not in use
+--     next-fits                        where there is room for one more it lies within capacity
+--     count-none                       a pool with no last record counts none
 --     length-taken, word-taken, in-use-taken, count-taken    what taking a record leaves
 -- Assumes nothing.
-use Prim.Native.Nat.{ℕ, _+_, _*_, _≤_, _<_}
-use mathlib.Core.Path.{_≡_, refl, sym}
+use Prim.Native.Nat.{ℕ, _+_, _*_, _/_, _%_, _≤_, _<_}
+use mathlib.Core.Path.{_≡_, refl, sym, _∙_, ap}
 use mathlib.Core.Logic.{_⊎_, inl, inr, ⊎-elim}
-use lib.ListN.{length, length-set, List·getD-eq-default}
+use lib.ListN.{length, getD, length-set, List·getD-eq-default}
 use lib.Seq.{getD-set-same, getD-set-other}
 use native.Mathlib.Omega.{arith}
-use Rattle.records.specs.Words.{Pool, recordWords, word, put, entry, parent, lastRecord, usedCount, InUse, Node, nextRecord, taken}
+use Rattle.records.specs.Words.{Pool, recordWords, word, put, entry, parent, lastRecord, usedCount, InUse, Node, nextRecord, taken, capacity}
 use Rattle.records.proofs.Laws.Distinct.{equal-or-not}
 
 apart : (c d k l : ℕ) → k < recordWords → l < recordWords → (c ≡ d → k ≡ l → ⊥) → recordWords * d + l ≡ recordWords * c + k → ⊥
@@ -25,6 +28,10 @@ apart c d k l a b ne e = ⊎-elim (λ (q : c ≡ d). ne q (omega arith)) (λ nq.
 pub word-beyond : (p : Pool) (c k : ℕ) → length p ≤ recordWords * c + k → word p c k ≡ 0
 unfolding word
 word-beyond p c k h = List·getD-eq-default p 0 h
+
+pub word-at : (p : Pool) (j : ℕ) → getD p j 0 ≡ word p (j / recordWords) (j % recordWords)
+unfolding word
+word-at p j = ap (λ (i : ℕ). getD p i 0) (omega arith)
 
 pub length-put : (p : Pool) (c k v : ℕ) → length (put p c k v) ≡ length p
 unfolding put
@@ -67,6 +74,12 @@ next-last p = refl
 
 pub next-unused : (p : Pool) → Node p (nextRecord p) → ⊥
 next-unused p h = omega (arith, node-within p (nextRecord p) h, next-last p)
+
+pub next-fits : (p : Pool) → lastRecord p ≤ capacity p → usedCount p + 1 ≤ capacity p → nextRecord p ≤ capacity p
+next-fits p h r = omega (arith, next-last p, count-last p)
+
+pub count-none : (p : Pool) → lastRecord p ≡ 0 → usedCount p ≡ 0
+count-none p e = count-last p ∙ e
 
 pub length-taken : (p : Pool) (m : ℕ) → length (taken p m) ≡ length p
 unfolding taken

@@ -6,5 +6,6 @@ pub mod Entering
 pub mod Reset
 pub mod UseCount
 pub mod Push
+pub mod Untouched
 pub mod Meaning
 pub mod History

@@ -3,6 +3,7 @@
 --
 --     Entered             the words after a record is entered
 --     enter-words         they are so after `entered`
+--     parent-or-root      the parent of a record in use is the root or in use
 --     enter-keeps         it keeps a pool sound but for the record entered
 --     can-enter, can-enter-rest    entering many is entering one, then the rest
 --     entered-all         what is so after all are entered
@@ -24,7 +25,7 @@ use Rattle.records.specs.Words.{Pool, recordWords, word, entry, label, value, f
 use Rattle.records.specs.Sound.{In, Fits, Children, Sound}
 use Rattle.records.specs.Spelling.{Stops}
 use Rattle.records.proofs.Laws.Distinct.{equal-or-not}
-use Rattle.records.proofs.Laws.Words.{word-put-same, count-last, node-within, parent-node, next-last, next-unused, length-taken, word-taken, last-taken, in-use-taken, in-use-stays, next-in-use, count-taken}
+use Rattle.records.proofs.Laws.Words.{word-put-same, node-within, parent-node, next-last, next-unused, next-fits, length-taken, word-taken, last-taken, in-use-taken, in-use-stays, next-in-use, count-taken}
 use Rattle.records.proofs.Laws.Sound.{chain-same, chain-starts, rises-same, rises-distinct, children-most}
 use Rattle.pool.specs.declared.siblings.Slot.{Slot}
 use Rattle.pool.specs.Siblings.{slot, slotFrom, slotOf}
@@ -102,6 +103,9 @@ sound-but p e s = record {
   children = s .children;
 }
 
+pub parent-or-root : (p : Pool) (e c : ℕ) → SoundBut p e → InUse p c → Node p (parent p c)
+parent-or-root p e c s u = parent-node p c u (s .fits c u .parent-below)
+
 pub node-inside : (p : Pool) (e c : ℕ) → SoundBut p e → Node p c → Inside p c
 node-inside p e c s h = let r = s .within in let l = s .rooted in omega (arith, node-within p c h)
 
@@ -178,7 +182,7 @@ module _ (p q : Pool) (i b m a x : ℕ) (s : SoundBut p i) (node : Node p i) (by
     rising = tt;
     only = λ c h. absurd h;
     all = λ c u t.
-        ⊎-elim (λ v. unused (subst (Node p) (sym (parent-same c (inr v)) ∙ t) (parent-node p c v (s .fits c v .parent-below))))
+        ⊎-elim (λ v. unused (subst (Node p) (sym (parent-same c (inr v)) ∙ t) (parent-or-root p i c s v)))
         (λ (z : c ≡ m). other-than i node (sym (A .own-parent) ∙ rw z at t)) (known-or-entered c u);
   }
 
@@ -243,7 +247,7 @@ enter-steps p i b m s e f = rw (e, f)
 -- ---- one record entered where it can be
 module _ (p : Pool) (i b : ℕ) (can : CanEnter p i b) where
   pub next-inside : Inside p (nextRecord p)
-  next-inside = let r = can .room in let l = can .sound .rooted in omega (arith, next-last p, count-last p)
+  next-inside = let r = next-fits p (can .sound .within) (can .room) in let l = can .sound .rooted in omega arith
 
   pub prev-inside : (s : Slot) → s ≡ slotOf p i b → Inside p (s .prev)
   prev-inside s e = rw e (node-inside p i (slotOf p i b .prev) (can .sound) (slot-prev-node p i b (can .sound .children i (can .node))))
@@ -266,10 +270,9 @@ module _ (p : Pool) (i b : ℕ) (can : CanEnter p i b) where
       let q = entered p i b in
       let l = enter-words .last in
       let e = enter-words .len in
-      let r = can .room in
       let K = can .sound .children i (can .node) in
       entered-keeps p q i b (nextRecord p) (slotOf p i b .prev) (slotOf p i b .next) (can .sound) (can .node) (can .byte) enter-words
-      (omega (arith, next-last p)) (next-unused p) (omega (arith, next-last p, node-within p i (can .node))) (omega (arith, next-last p, count-last p))
+      (omega (arith, next-last p)) (next-unused p) (omega (arith, next-last p, node-within p i (can .node))) (omega (arith, next-fits p (can .sound .within) (can .room)))
       (in-use-taken p q l) (in-use-stays p q l) (next-in-use p q l) (omega (arith, next-last p))
       (slot-prev-child p i b K) (slot-next-node p i b K) (slot-of-start p i b) (λ k h e. let o = K .only k h in can .absent k (o .0, o .1, e))
 

@@ -34,7 +34,8 @@ use Rattle.records.specs.Sound.{Sound}
 use Rattle.records.specs.Spelling.{ChildBy, Spells}
 use Rattle.records.specs.Meaning.{poolMap, Holds}
 use Rattle.records.proofs.Laws.Distinct.{equal-or-not, below-or-not}
-use Rattle.records.proofs.Laws.Words.{count-last, next-unused, parent-node, in-use-taken, in-use-stays, next-in-use}
+use Rattle.records.proofs.Laws.Words.{next-unused, in-use-taken, in-use-stays, next-in-use}
+use Rattle.records.proofs.Laws.Sound.{used-within, none-in-use}
 use Rattle.records.proofs.Laws.SoundTest.{sound-test}
 use Rattle.records.proofs.Laws.Spelling.{spells-child, spells-one-path, spells-one-record}
 use Rattle.records.proofs.Laws.Meaning.{map-rising, map-holds, count-prefixes, missing-rest}
@@ -47,7 +48,7 @@ use Rattle.pool.specs.Reset.{resetPool}
 use Rattle.pool.specs.Push.{insertedAt, inserted, hasRoom, pushSays, pushPool}
 use Rattle.pool.proofs.Laws.Path.{Split, reach-split, split-rest, split-missing}
 use Rattle.pool.proofs.Laws.Writing.{marked-other, marked-entry, marked-value, marked-label, marked-last}
-use Rattle.pool.proofs.Laws.Entering.{Entered, enter-words, can-enter, can-enter-rest, EnteredAll, entered-all, node-inside}
+use Rattle.pool.proofs.Laws.Entering.{Entered, enter-words, can-enter, can-enter-rest, EnteredAll, entered-all, parent-or-root, node-inside}
 use Rattle.pool.proofs.Laws.Reset.{length-reset, reset-sound, reset-count}
 use Rattle.pool.proofs.Laws.Push.{tested-full, tested-done, push-tested, push-accepted, can-insert, end-in-use, insert-keeps}
 
@@ -90,7 +91,7 @@ module _ (p : Pool) (i b : ℕ) (can : CanEnter p i b) where
   -- the record entered has no child
   childless : (c x : ℕ) → ChildBy q m c x → ⊥
   childless c x h =
-      ⊎-elim (λ u. next-unused p (subst (Node p) (sym (parent-kept x u) ∙ h .1) (parent-node p x u (can .sound .fits x u .parent-below))))
+      ⊎-elim (λ u. next-unused p (subst (Node p) (sym (parent-kept x u) ∙ h .1) (parent-or-root p i x (can .sound) u)))
       (λ (e : x ≡ m). next-unused p (subst (Node p) (sym (A .own-parent) ∙ ap (λ (k : ℕ). parent q k) (sym e) ∙ h .1) (can .node))) (in-use-taken p q (A .last) x (h .0))
 
   pub spells-stays : (j : ℕ) (bs : Key) (c : ℕ) → Spells p j bs c → Spells q j bs c
@@ -266,7 +267,7 @@ pub reset-means-empty : (p : Pool) → recordWords ≤ length p → poolMap (res
 reset-means-empty p h =
     members-none (poolMap (resetPool p)) (λ e i.
     let a = map-holds (resetPool p) (reset-sound p h) (e .0) (e .1) .0 i in
-    omega (arith, a .used .0, a .used .1, reset-count p h, count-last (resetPool p)))
+    none-in-use (resetPool p) (reset-sound p h) (reset-count p h) (a .at) (a .used))
 
 module _ (p : Pool) (key : Key) (v : ℕ) where
   pub push-means-insert : Bytes key → accepted (pushSays p key) ≡ true → poolMap (pushPool p key v) ≡ insert key v (poolMap p)
@@ -296,12 +297,12 @@ module _ (p : Pool) (key : Key) (s : Sound p) (nonempty : length key ≡ 0 → �
   present-accepted w e =
       let z = missing-present key w (poolMap p) (map-rising p s) e in
       let n = missing-means-missing in
-      sym (tested-done p key nonempty (omega (arith, s .within, count-last p)) ∙ push-tested p key (s .rooted) (sound-test p s))
+      sym (tested-done p key nonempty (omega (arith, used-within p s)) ∙ push-tested p key (s .rooted) (sound-test p s))
 
 -- ---- the first push
 reset-unspelled : (p : Pool) → recordWords ≤ length p → (k : Key) (c : ℕ) → Spells (resetPool p) 0 k c → length k ≡ 0
 reset-unspelled p h [] c s = refl
-reset-unspelled p h (b ∷ bs) c s = absurd (omega (arith, s .1 .0 .0, s .1 .0 .1, reset-count p h, count-last (resetPool p)))
+reset-unspelled p h (b ∷ bs) c s = absurd (none-in-use (resetPool p) (reset-sound p h) (reset-count p h) (s .0) (s .1 .0))
 
 -- into a pool that was just reset a key fits exactly if it has no more bytes than capacity
 pub reset-push : (p : Pool) (key : Key) → recordWords ≤ length p → (length key ≡ 0 → ⊥)

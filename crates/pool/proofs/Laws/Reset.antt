@@ -2,22 +2,23 @@
 --
 --     reset-small, reset-done    what it says and leaves
 --     reset-sound                what it leaves of 5 words or more is sound
+--     reset-others               the words behind record 0 are as they were
 -- Assumes nothing.
-use Prim.Native.Nat.{_≤_, _<_}
+use Prim.Native.Nat.{ℕ, _/_, _%_, _≤_, _<_}
 use mathlib.Core.Path.{_≡_, refl, sym, _∙_, subst}
 use mathlib.Core.Bool.{Bool, true, false, cond}
 use mathlib.Core.List.{[], _∷_}
 use native.Mathlib.Omega.{arith}
-use lib.ListN.{length}
+use lib.ListN.{length, getD}
 use borrow.Author.Tests.{le-ltb, lt-ltb}
 use Rattle.keymap.specs.Refusals.{Refusal, refusalNumber}
 use Rattle.records.specs.Words.{Pool, recordWords, lastRecord, usedCount}
 use Rattle.records.specs.Sound.{Children, Sound}
-use Rattle.records.proofs.Laws.Words.{last-entry, count-last, node-within}
+use Rattle.records.proofs.Laws.Words.{word-at, last-entry, count-none, node-within}
 use Rattle.pool.specs.Answers.{accepted}
 use Rattle.pool.specs.Writing.{filled}
 use Rattle.pool.specs.Reset.{resetSays, resetPool}
-use Rattle.pool.proofs.Laws.Writing.{length-filled, filled-entry, filled-value, filled-child, filled-sibling, filled-parent}
+use Rattle.pool.proofs.Laws.Writing.{length-filled, filled-other, filled-entry, filled-value, filled-child, filled-sibling, filled-parent}
 
 module _ (p : Pool) where
   pub reset-small : length p < recordWords → (refusalNumber Refusal.PoolTooSmall ∷ [] ≡ resetSays p) × (p ≡ resetPool p)
@@ -34,6 +35,15 @@ module _ (p : Pool) where
     where
       go : (t : Bool) → length (cond t (filled p 0 0 0 0) p) ≡ length p
       go true = length-filled p 0 0 0 0
+      go false = refl
+
+  pub reset-others : (j : ℕ) → recordWords ≤ j → getD (resetPool p) j 0 ≡ getD p j 0
+  unfolding resetPool
+  reset-others j h = go (accepted (resetSays p))
+    where
+      go : (t : Bool) → getD (cond t (filled p 0 0 0 0) p) j 0 ≡ getD p j 0
+      go true =
+          word-at (filled p 0 0 0 0) j ∙ filled-other p 0 0 0 0 (j / recordWords) (j % recordWords) (omega arith) (λ e. omega arith) ∙ sym (word-at p j)
       go false = refl
 
   module _ (h : recordWords ≤ length p) where
@@ -62,4 +72,4 @@ module _ (p : Pool) where
     reset-sound = subst Sound (reset-done h .1) zeroed-sound
 
     pub reset-count : usedCount (resetPool p) ≡ 0
-    reset-count = subst (λ (q : Pool). usedCount q ≡ 0) (reset-done h .1) (count-last zeroed ∙ zeroed-last)
+    reset-count = subst (λ (q : Pool). usedCount q ≡ 0) (reset-done h .1) (count-none zeroed zeroed-last)

@@ -6,7 +6,7 @@ use denote.Ref.{now}
 use denote.Triple.Clauses.{AtExit}
 use borrow.Fn.World.{ArgsD, ResD}
 use borrow.Fn.Kinds.{endedOf}
-use Rattle.pool.proofs.Laws.Answers.{said-reset-one, said-use-count-one, said-pushed-one}
+use Rattle.pool.proofs.Laws.Answers.{said-cleared-one, said-counted-one, said-pushed-one}
 use Rattle.pool.proofs.reset
 use Rattle.pool.proofs.reset.Kinds as reset-kinds
 use Rattle.pool.proofs.reset.Reads as reset-reads
@@ -19,11 +19,11 @@ use Rattle.pool.proofs.push.Reads as push-reads
 
 module _ (κs : Lfts 1) (a : ArgsD reset.signature κs) (r₁ r₂ : ResD reset.signature κs) (s₁ s₂ : AtExit (endedOf 1 reset-kinds.ps reset-kinds.r) κs) where
   pub reset-determined : reset-reads.Post κs a r₁ s₁ → reset-reads.Post κs a r₂ s₂ → (r₁ ≡ r₂) × (now (s₁ .0) ≡ now (s₂ .0))
-  reset-determined p q = (said-reset-one r₁ r₂ (p .0 ∙ sym (q .0)), p .1 ∙ sym (q .1))
+  reset-determined p q = (said-cleared-one r₁ r₂ (p .0 ∙ sym (q .0)), p .1 ∙ sym (q .1))
 
 module _ (κs : Lfts 1) (a : ArgsD use_count.signature κs) (r₁ r₂ : ResD use_count.signature κs) (s₁ s₂ : AtExit (endedOf 1 use-count-kinds.ps use-count-kinds.r) κs) where
   pub use-count-determined : use-count-reads.Post κs a r₁ s₁ → use-count-reads.Post κs a r₂ s₂ → r₁ ≡ r₂
-  use-count-determined p q = said-use-count-one r₁ r₂ (p ∙ sym q)
+  use-count-determined p q = said-counted-one r₁ r₂ (p ∙ sym q)
 
 module _ (κs : Lfts 2) (a : ArgsD push.signature κs) (r₁ r₂ : ResD push.signature κs) (s₁ s₂ : AtExit (endedOf 2 push-kinds.ps push-kinds.r) κs) where
   pub push-determined : push-reads.Post κs a r₁ s₁ → push-reads.Post κs a r₂ s₂ → (r₁ ≡ r₂) × (now (s₁ .0) ≡ now (s₂ .0))

@@ -9,14 +9,14 @@ use Rattle.pool.specs.declared.answers.Cleared.{Cleared}
 use Rattle.pool.specs.declared.answers.Counted.{Counted}
 use Rattle.pool.specs.declared.answers.Pushed.{Pushed}
 
-abbrev pub saidReset : Cleared → List ℕ
-saidReset Cleared.Done = 0 ∷ []
-saidReset Cleared.PoolTooSmall = refusalNumber Refusal.PoolTooSmall ∷ []
+abbrev pub saidCleared : Cleared → List ℕ
+saidCleared Cleared.Done = 0 ∷ []
+saidCleared Cleared.PoolTooSmall = refusalNumber Refusal.PoolTooSmall ∷ []
 
-abbrev pub saidUseCount : Counted → List ℕ
-saidUseCount (Counted.Records n) = 0 ∷ n ∷ []
-saidUseCount Counted.PoolTooSmall = refusalNumber Refusal.PoolTooSmall ∷ []
-saidUseCount Counted.NotAPool = refusalNumber Refusal.NotAPool ∷ []
+abbrev pub saidCounted : Counted → List ℕ
+saidCounted (Counted.Records n) = 0 ∷ n ∷ []
+saidCounted Counted.PoolTooSmall = refusalNumber Refusal.PoolTooSmall ∷ []
+saidCounted Counted.NotAPool = refusalNumber Refusal.NotAPool ∷ []
 
 abbrev pub saidPushed : Pushed → List ℕ
 saidPushed Pushed.Done = 0 ∷ []

@@ -17,14 +17,14 @@ use records::soundness::is_sound;
 use records::words::RECORD_WORDS;
 use records::words::used_count;
 ghost use mathlib.Core.Path.{_≡_};
-ghost use Rattle.pool.specs.Answers.{saidReset, saidUseCount, saidPushed};
+ghost use Rattle.pool.specs.Answers.{saidCleared, saidCounted, saidPushed};
 ghost use Rattle.pool.specs.Reset.{resetSays, resetPool};
 ghost use Rattle.pool.specs.UseCount.{useCountSays};
 ghost use Rattle.pool.specs.Push.{pushSays, pushPool};
 
 // Zeroes record 0 of any pool of 5 words or more.
 pub fn reset(pool: &mut [u32]) -> Cleared
-    ensures answer { λ r. ⌜ saidReset r ≡ resetSays (now (pool .entry)) ⌝ }
+    ensures answer { λ r. ⌜ saidCleared r ≡ resetSays (now (pool .entry)) ⌝ }
     ensures left { λ _. ⌜ now (pool .exit) ≡ resetPool (now (pool .entry)) ⌝ }
 {
     if pool.len() < RECORD_WORDS {
@@ -36,7 +36,7 @@ pub fn reset(pool: &mut [u32]) -> Cleared
 
 // The number of records in use, the root left out.
 pub fn use_count(pool: &[u32]) -> Counted
-    ensures answer { λ r. ⌜ saidUseCount r ≡ useCountSays (now (pool .entry)) ⌝ }
+    ensures answer { λ r. ⌜ saidCounted r ≡ useCountSays (now (pool .entry)) ⌝ }
 {
     if pool.len() < RECORD_WORDS {
         return Counted::PoolTooSmall;

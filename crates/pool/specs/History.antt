@@ -6,6 +6,7 @@
 --     runSays, runPool      the same of calls in turn
 --     mapSays, mapAfter     what a call answers by the map, and the map that it leaves
 --     mapRunSays, mapRun    the same of calls in turn
+--     pushesOf              a push for each entry of a map
 -- Assumes nothing.
 use Prim.Native.Nat.{ℕ, _<_}
 use mathlib.Core.Bool.{cond}
@@ -75,3 +76,7 @@ mapRunSays most m (c ∷ cs) = mapSays most m c ∷ mapRunSays most (mapAfter mo
 unfoldable pub mapRun : ℕ → Map → List Call → Map
 mapRun most m [] = m
 mapRun most m (c ∷ cs) = mapRun most (mapAfter most m c) cs
+
+abbrev pub pushesOf : Map → List Call
+pushesOf [] = []
+pushesOf (e ∷ m) = push (e .0) (e .1) ∷ pushesOf m

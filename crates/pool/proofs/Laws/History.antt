@@ -2,34 +2,37 @@
 --
 --     call-says, call-map, call-sound, call-length    one call
 --     run-says, run-map, run-sound                    any calls on a sound pool, also one that was not reset here
---     reset-run-sound, -map, -says                    any calls after an accepted reset: the pool is sound, holds the map of the keys accepted since the last reset,
+--     reset-run-sound, reset-run-map, reset-run-says  any calls after an accepted reset: the pool is sound, holds the map of the keys accepted since the last reset,
 --                                                     and every answer is told by that map and the capacity
 --     reset-run-within                                that map is a catalogue with no more distinct prefixes than the capacity
 --     reset-run-count                                 and its use count is the number of that map's distinct nonempty prefixes
+--     refill-says, refill-map                         a sound pool counts as reset and then given the keys that it holds: all are accepted, and leave its map
 -- Assumes nothing.
-use Prim.Native.Nat.{ℕ, _≤_, _<_}
+use Prim.Native.Nat.{ℕ, _+_, _≤_, _<_}
 use mathlib.Core.Path.{_≡_, refl, sym, _∙_, ap}
 use mathlib.Core.Bool.{Bool, true, false, cond}
-use mathlib.Core.List.{List, [], _∷_}
+use mathlib.Core.List.{List, [], _∷_, map}
 use native.Mathlib.Omega.{arith}
 use lib.ListN.{length}
 use lib.Dec.{leb, eqb}
-use borrow.Author.Tests.{eqb-false, leb-true}
+use borrow.Author.Tests.{ne-eqb, eqb-false, leb-true, le-leb}
 use Rattle.keymap.specs.Limits.{valueLimit}
 use Rattle.keymap.specs.Key.{Key, Bytes}
-use Rattle.keymap.specs.Map.{Map, Catalogue, insert}
+use Rattle.keymap.specs.Map.{Entry, Map, Rising, Proper, Catalogue, insert, insertAll}
 use Rattle.keymap.specs.Prefixes.{deepest, levels, prefixes}
 use Rattle.keymap.specs.Refusals.{Refusal, refusalNumber}
-use Rattle.keymap.proofs.Laws.Map.{insert-catalogue}
-use Rattle.records.specs.Words.{Pool, recordWords, usedCount, capacity}
+use Rattle.keymap.proofs.Laws.Map.{insert-rising, insert-catalogue, insertAll-self}
+use Rattle.keymap.proofs.Laws.Prefixes.{prefixes-insert}
+use Rattle.records.specs.Words.{Pool, recordWords, usedCount, Bounded, capacity}
 use Rattle.records.specs.Sound.{Sound}
 use Rattle.records.specs.Meaning.{poolMap}
+use Rattle.records.proofs.Laws.Sound.{used-within}
 use Rattle.records.proofs.Laws.SoundTest.{sound-test}
-use Rattle.records.proofs.Laws.Meaning.{count-prefixes}
+use Rattle.records.proofs.Laws.Meaning.{map-catalogue, count-prefixes}
 use Rattle.pool.specs.Answers.{accepted}
 use Rattle.pool.specs.Reset.{resetPool}
 use Rattle.pool.specs.Push.{hasRoom, testedSays, pushSays, pushPool}
-use Rattle.pool.specs.History.{Call, Lent, AllLent, callSays, callPool, runSays, runPool, mapSays, mapAfter, mapRunSays, mapRun}
+use Rattle.pool.specs.History.{Call, Lent, AllLent, callSays, callPool, runSays, runPool, mapSays, mapAfter, mapRunSays, mapRun, pushesOf}
 use Rattle.pool.proofs.Laws.Reset.{reset-done, reset-sound, length-reset}
 use Rattle.pool.proofs.Laws.UseCount.{use-count-sound}
 use Rattle.pool.proofs.Laws.Push.{push-tested, push-keeps, length-push}
@@ -153,3 +156,59 @@ module _ (p : Pool) (h : recordWords ≤ length p) (cs : List Call) (lent : AllL
   -- and it is a catalogue that the pool has room for
   pub reset-run-within : Catalogue (mapRun (capacity p) [] cs) × (length (prefixes (mapRun (capacity p) [] cs)) ≤ capacity p)
   reset-run-within = run-within (capacity p) cs [] empty-catalogue (omega (arith, empty-prefixes)) lent
+
+-- ---- a pool that was not reset here
+prefixes-insertAll : (es m : Map) → Rising m → length (prefixes m) ≤ length (prefixes (insertAll es m))
+unfolding insertAll
+prefixes-insertAll [] m r = omega arith
+prefixes-insertAll (e ∷ es) m r =
+    omega (arith, prefixes-insert (e .0) (e .1) m r, prefixes-insertAll es (insert (e .0) (e .1) m) (insert-rising (e .0) (e .1) m r))
+
+pushes-lent : (m : Map) → Proper m → AllLent (pushesOf m)
+pushes-lent [] p = tt
+pushes-lent (e ∷ m) p = ((p .1, p .2), pushes-lent m (p .3))
+
+-- a push of a key for which there is room
+module _ (most : ℕ) (m : Map) (k : Key) (v : ℕ) (nonempty : ¬ (k ≡ [])) (few : length (prefixes (insert k v m)) ≤ most) where
+  not-empty : (x : Key) → ¬ (x ≡ []) → eqb (length x) 0 ≡ false
+  not-empty [] n = absurd (n refl)
+  not-empty (b ∷ bs) n = ne-eqb (length (b ∷ bs)) 0 (λ e. omega arith)
+
+  fits-says : mapSays most m (Call.push k v) ≡ 0 ∷ []
+  fits-says = rw (not-empty k nonempty, le-leb _ _ few)
+
+  fits-after : mapAfter most m (Call.push k v) ≡ insert k v m
+  fits-after = rw fits-says
+
+-- where all the entries fit together each is accepted, and all are inserted
+pushes-run : (es : Map) (most : ℕ) (m : Map) → Proper es → Rising m → length (prefixes (insertAll es m)) ≤ most
+    → (mapRunSays most m (pushesOf es) ≡ map (λ (e : Entry). 0 ∷ []) es) × (mapRun most m (pushesOf es) ≡ insertAll es m)
+unfolding mapRunSays mapRun insertAll
+pushes-run [] most m p r few = (refl, refl)
+pushes-run (e ∷ es) most m p r few =
+    let up = insert-rising (e .0) (e .1) m r in
+    let room : length (prefixes (insert (e .0) (e .1) m)) ≤ most = omega (arith, prefixes-insertAll es (insert (e .0) (e .1) m) up) in
+    let says = fits-says most m (e .0) (e .1) (p .0) room in
+    let after = fits-after most m (e .0) (e .1) (p .0) room in
+    let rest = pushes-run es most (insert (e .0) (e .1) m) (p .3) up few in (
+      (λ i. says i ∷ (ap (λ (n : Map). mapRunSays most n (pushesOf es)) after ∙ rest .0) i),
+      ap (λ (n : Map). mapRun most n (pushesOf es)) after ∙ rest .1,
+    )
+
+module _ (p : Pool) (s : Sound p) (bounded : Bounded p) where
+  held : Catalogue (poolMap p)
+  held = map-catalogue p s bounded
+
+  self : insertAll (poolMap p) [] ≡ poolMap p
+  self = insertAll-self (poolMap p) (held .rising)
+
+  room : length (prefixes (insertAll (poolMap p) [])) ≤ capacity p
+  room = rw self (omega (arith, count-prefixes p s, used-within p s))
+
+  pub refill-says : runSays (resetPool p) (pushesOf (poolMap p)) ≡ map (λ (e : Entry). 0 ∷ []) (poolMap p)
+  refill-says =
+      reset-run-says p (s .rooted) (pushesOf (poolMap p)) (pushes-lent (poolMap p) (held .proper)) ∙ pushes-run (poolMap p) (capacity p) [] (held .proper) tt room .0
+
+  pub refill-map : poolMap (runPool (resetPool p) (pushesOf (poolMap p))) ≡ poolMap p
+  refill-map =
+      reset-run-map p (s .rooted) (pushesOf (poolMap p)) (pushes-lent (poolMap p) (held .proper)) ∙ pushes-run (poolMap p) (capacity p) [] (held .proper) tt room .1 ∙ self

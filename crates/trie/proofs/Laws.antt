@@ -10,6 +10,7 @@ pub mod Glide
 pub mod Prefix
 pub mod Cursors
 pub mod Listing
+pub mod GivenKey
 pub mod Incremental
 pub mod Places
 pub mod Moves

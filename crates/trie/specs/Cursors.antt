@@ -7,13 +7,11 @@
 --     startSays     the start of a listing
 --     nextIn        the entry that the next step gives
 --     stepSays      a step
---     keySays       the key of a cursor at a node, "in postfix listings from after the query"
 -- Assumes nothing.
 use Prim.Native.Nat.{ℕ, zero, suc}
 use mathlib.Core.Bool.{Bool, true, false, cond, _&&_}
 use mathlib.Core.List.{List, [], _∷_, head?}
 use mathlib.Core.Option.{Option, none, some}
-use lib.ListN.{length, drop}
 use Rattle.keymap.specs.Key.{Key}
 use Rattle.keymap.specs.Refusals.{refusalNumber, BadPlace}
 use Rattle.keymap.specs.Map.{Entry, Map, lookup}
@@ -21,13 +19,11 @@ use Rattle.keymap.specs.Queries.{nonempty, beginning, longer, leastAbove}
 use Rattle.keymap.specs.Image.{Image}
 use Rattle.keymap.specs.Paths.{isNode, pathOf, nodeOf}
 use Rattle.keymap.specs.Decode.{imageMap}
-use Rattle.image.specs.AcceptTest.{imageTest}
 use Rattle.trie.specs.declared.Kind.{Kind}
 use Rattle.trie.specs.declared.Kind.the-variants as kinds
 use Rattle.trie.specs.declared.Cursor.{Cursor}
 use Rattle.trie.specs.declared.Cursor.the-variants.{Open, Finished}
 use Rattle.trie.specs.Answers.{onImage, saidCursor}
-use Rattle.trie.specs.Prefix.{saysWritten, writtenTo}
 
 abbrev pub setOf : Map → Kind → Key → Map
 setOf m kinds.Predictive p = beginning p m
@@ -73,27 +69,3 @@ stepIn m (Finished kind) = saysEnd kind
 
 unfoldable pub stepSays : Image → Cursor → List ℕ
 stepSays i c = onImage i (onCursor (imageMap i) c (stepIn (imageMap i) c))
-
--- the key that a cursor has given last, if it has given one and is not finished
-abbrev pub keyFrom : Map → Kind → ℕ → ℕ → Option Key
-keyFrom m kind top zero = none
-keyFrom m kinds.Predictive top (suc k) = some (pathOf m (suc k))
-keyFrom m kinds.Postfix top (suc k) = some (drop (length (pathOf m top)) (pathOf m (suc k)))
-
-abbrev pub keyOf : Map → Cursor → Option Key
-keyOf m (Open kind top last) = keyFrom m kind top last
-keyOf m (Finished kind) = none
-
-abbrev pub saysKey : Option Key → List ℕ → List ℕ
-saysKey none out = refusalNumber BadPlace ∷ []
-saysKey (some k) out = saysWritten k out
-
-abbrev pub writtenKey : Option Key → List ℕ → List ℕ
-writtenKey none out = out
-writtenKey (some k) out = writtenTo k out
-
-unfoldable pub keySays : Image → Cursor → List ℕ → List ℕ
-keySays i c out = onImage i (onCursor (imageMap i) c (saysKey (keyOf (imageMap i) c) out))
-
-unfoldable pub keyOut : Image → Cursor → List ℕ → List ℕ
-keyOut i c out = cond (imageTest i) (cond (belongs (imageMap i) c) (writtenKey (keyOf (imageMap i) c) out) out) out

@@ -8,6 +8,7 @@ pub mod Spelling
 pub mod Glide
 pub mod Cursors
 pub mod Listing
+pub mod GivenKey
 pub mod Incremental
 pub mod Places
 pub mod Moves

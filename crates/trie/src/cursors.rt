@@ -75,7 +75,7 @@ fn in_set(
 }
 
 // Whether the numbers of an open cursor belong to the image.
-fn stands(
+pub fn stands(
     labels: &[u16],
     values: &[u32],
     words: &[u64],

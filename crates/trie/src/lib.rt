@@ -6,6 +6,7 @@
 mod common_prefixes;
 mod cursors;
 mod exact;
+mod given_key;
 mod moves;
 pub mod place;
 mod prefix;
@@ -23,6 +24,7 @@ pub use cursors::step;
 pub use exact::exact_match;
 pub use exact::is_prefix;
 pub use exact::set_value;
+pub use given_key::cursor_key;
 pub use prefix::longest_prefix;
 
 // What a key has: `exact_match`, and `set_value` with what it had before.

@@ -5,6 +5,7 @@
 --     saidCursor-one, saidStarted-one, saidStepped-one    of cursors, starts and steps
 --     saidLongest-one, saidSpelled-one    of what is written to a buffer
 --     saidResumed-one, saidValued-one, saidMeasured-one    of what is read of a place
+--     saidQueried-one, saidFollowed-one, saidGone-one     of its moves
 -- Assumes nothing.
 use mathlib.Core.Path.{_≡_, refl, sym, ap, _∙_}
 use Prim.Native.Nat.{ℕ, zero, suc}
@@ -18,7 +19,7 @@ use Rattle.trie.specs.declared.Prefixed.the-variants as prefixed
 use Rattle.trie.specs.declared.Common.{Common}
 use Rattle.trie.specs.declared.Common.the-variants as common
 use Rattle.trie.specs.Answers.{saidLooked, saidPrefixed, saidCommon, saidKind, saidCursor, saidStarted, saidStepped, saidLongest, saidSpelled}
-use Rattle.trie.specs.Incremental.{placeAt}
+use Rattle.trie.specs.Incremental.{saidAnswer, saidQueried, saidFollowed, saidGone, placeAt}
 use Rattle.trie.specs.Places.{saidResumed, saidValued, saidMeasured}
 use Rattle.trie.specs.declared.Longest.{Longest}
 use Rattle.trie.specs.declared.Longest.the-variants as longest
@@ -38,6 +39,14 @@ use Rattle.trie.specs.declared.place.Valued.{Valued}
 use Rattle.trie.specs.declared.place.Valued.the-variants as valued
 use Rattle.trie.specs.declared.place.Measured.{Measured}
 use Rattle.trie.specs.declared.place.Measured.the-variants as measured
+use Rattle.trie.specs.declared.place.Answer.{Answer}
+use Rattle.trie.specs.declared.place.Answer.the-variants as answers
+use Rattle.trie.specs.declared.place.Queried.{Queried}
+use Rattle.trie.specs.declared.place.Queried.the-variants as queried
+use Rattle.trie.specs.declared.place.Followed.{Followed}
+use Rattle.trie.specs.declared.place.Followed.the-variants as followed
+use Rattle.trie.specs.declared.place.Gone.{Gone}
+use Rattle.trie.specs.declared.place.Gone.the-variants as gone
 
 abbrev toldLooked : List ℕ → Looked
 toldLooked [] = looked.NotAnImage
@@ -201,3 +210,55 @@ toldMeasured-said measured.BadPlace = refl
 
 pub saidMeasured-one : (r s : Measured) → saidMeasured r ≡ saidMeasured s → r ≡ s
 saidMeasured-one r s e = sym (toldMeasured-said r) ∙ ap toldMeasured e ∙ toldMeasured-said s
+
+abbrev toldAnswer : ℕ → Answer
+toldAnswer n = cond (eqb n 1) answers.Prefix (cond (eqb n 2) answers.Match answers.PrefixAndMatch)
+
+toldAnswer-said : (a : Answer) → toldAnswer (saidAnswer a) ≡ a
+toldAnswer-said answers.Prefix = refl
+toldAnswer-said answers.Match = refl
+toldAnswer-said answers.PrefixAndMatch = refl
+
+abbrev toldQueried : List ℕ → Queried
+toldQueried [] = queried.NotAnImage
+toldQueried (a ∷ []) = cond (eqb a 0) queried.NoMatch (cond (eqb a 6) queried.NotAnImage queried.BadPlace)
+toldQueried (a ∷ n ∷ ns) = queried.Found (toldAnswer n)
+
+toldQueried-said : (r : Queried) → toldQueried (saidQueried r) ≡ r
+toldQueried-said (queried.Found a) = ap queried.Found (toldAnswer-said a)
+toldQueried-said queried.NoMatch = refl
+toldQueried-said queried.NotAnImage = refl
+toldQueried-said queried.BadPlace = refl
+
+pub saidQueried-one : (r s : Queried) → saidQueried r ≡ saidQueried s → r ≡ s
+saidQueried-one r s e = sym (toldQueried-said r) ∙ ap toldQueried e ∙ toldQueried-said s
+
+abbrev toldFollowed : List ℕ → Followed
+toldFollowed [] = followed.NotAnImage
+toldFollowed (a ∷ []) = cond (eqb a 6) followed.NotAnImage followed.BadPlace
+toldFollowed (a ∷ b ∷ []) = followed.BadPlace
+toldFollowed (a ∷ b ∷ n ∷ ns) = cond (eqb b 0) (followed.Ok (toldAnswer n)) (followed.Err n)
+
+toldFollowed-said : (r : Followed) → toldFollowed (saidFollowed r) ≡ r
+toldFollowed-said (followed.Ok a) = ap followed.Ok (toldAnswer-said a)
+toldFollowed-said (followed.Err j) = refl
+toldFollowed-said followed.NotAnImage = refl
+toldFollowed-said followed.BadPlace = refl
+
+pub saidFollowed-one : (r s : Followed) → saidFollowed r ≡ saidFollowed s → r ≡ s
+saidFollowed-one r s e = sym (toldFollowed-said r) ∙ ap toldFollowed e ∙ toldFollowed-said s
+
+abbrev toldGone : List ℕ → Gone
+toldGone [] = gone.NotAnImage
+toldGone (a ∷ []) = cond (eqb a 6) gone.NotAnImage gone.BadPlace
+toldGone (a ∷ b ∷ []) = gone.BadPlace
+toldGone (a ∷ b ∷ n ∷ ns) = cond (eqb b 0) (gone.Ok n) (gone.Err n)
+
+toldGone-said : (r : Gone) → toldGone (saidGone r) ≡ r
+toldGone-said (gone.Ok d) = refl
+toldGone-said (gone.Err d) = refl
+toldGone-said gone.NotAnImage = refl
+toldGone-said gone.BadPlace = refl
+
+pub saidGone-one : (r s : Gone) → saidGone r ≡ saidGone s → r ≡ s
+saidGone-one r s e = sym (toldGone-said r) ∙ ap toldGone e ∙ toldGone-said s

@@ -5,37 +5,69 @@
 --     walkable-is       how many labels lead on: so many that these are a path, and one more is not
 --     follow-empty, follow-whole, follow-failed    what `query_until` says of them
 --     goto-none, goto-some     what goto says, by whether longer keys begin with the path, and whether their common prefix is one of them
+--     answer-tells      what the two tests of an answer mean
+--     query-moves, query-stays; follow-moves; goto-moves, goto-stays    the path of the place afterwards
+--     goto-key-single   from a path with a single child goto moves on, be the path a key or not
 --     promise-refused, promise-strange, promise-kept    a promise by the tests that come first
 -- Assumes nothing.
 use mathlib.Core.Path.{_≡_, refl, sym, ap, _∙_}
-use mathlib.Core.Logic.{⊎-elim}
+use mathlib.Core.Logic.{inr, ⊎-elim}
 use Prim.Native.Nat.{ℕ, zero, suc, _+_, _-_, _≤_, _<_}
 use native.Mathlib.Omega.{arith}
 use mathlib.Core.Bool.{Bool, true, false, cond, true≢false}
-use mathlib.Core.List.{List, [], _∷_, _++_, append-assoc}
+use mathlib.Core.List.{List, [], _∷_, _++_, append-assoc, append-nil}
 use mathlib.Core.Option.{Option, none, some}
 use lib.ListN.{length, take}
-use Rattle.keymap.specs.Members.{In}
+use Rattle.keymap.specs.Members.{In, here}
 use Rattle.keymap.specs.Key.{Key, PrefixOf, extends}
 use Rattle.keymap.specs.Refusals.{refusalNumber, NotAnImage, BadPlace}
 use Rattle.keymap.specs.Map.{Map, Rising, lookup}
-use Rattle.keymap.specs.Queries.{nonempty, SomeBegins, longer, isPrefixIn}
+use Rattle.keymap.specs.Queries.{nonempty, SomeBegins, beginning, longer, isPrefixIn, LongestCommon, commonOfAll}
 use Rattle.keymap.specs.Image.{Image, childrenIn}
 use Rattle.keymap.specs.Paths.{nodes, IsNode, isNode, pathOf, nodeOf, isPath}
 use Rattle.keymap.specs.Decode.{imageMap}
 use Rattle.keymap.proofs.Laws.Begins.{prefix-iff, prefix-leading, extends-iff}
-use Rattle.keymap.proofs.Laws.Queries.{lookup-longer}
-use Rattle.keymap.proofs.Laws.Paths.{pathOf-root, pathOf-in, nodes-iff, nodes-prefix, isPath-iff, nodeOf-root, nodeOf-pathOf, childrenIn-some}
-use Rattle.keymap.proofs.Laws.Common.{ends-valued}
+use Rattle.keymap.proofs.Laws.Queries.{beginning-iff, longer-iff, lookup-longer, isPrefixIn-iff, commonOfAll-longest, longestCommon-begins}
+use Rattle.keymap.proofs.Laws.Paths.{isNode-iff, pathOf-root, pathOf-in, pathOf-nodeOf, nodes-iff, nodes-prefix, isPath-iff, nodeOf-root, nodeOf-pathOf, childrenIn-iff, childrenIn-some}
+use Rattle.keymap.proofs.Laws.Common.{longer-single, ends-valued}
 use Rattle.image.specs.AcceptTest.{imageTest}
+use Rattle.trie.specs.declared.place.Answer.{Answer}
+use Rattle.trie.specs.declared.place.Answer.the-variants.{Prefix, Match, PrefixAndMatch}
 use Rattle.trie.specs.Cursors.{given}
-use Rattle.trie.specs.Incremental.{saysOk, saysErr, placeAt, onPlace, fromPlace, pathSays, queryIn, querySays, queryMoves, walkable, followIn, followSays, followMoves, commonBelow, gotoIn, gotoSays, gotoMoves, Promise}
+use Rattle.trie.specs.Incremental.{saidAnswer, tellsPrefix, tellsMatch, saysOk, saysErr, placeAt, onPlace, fromPlace, pathSays, queryIn, querySays, queryMoves, walkable, followIn, followSays, followMoves, commonBelow, gotoIn, gotoSays, gotoMoves, Promise}
 
 -- ---- what a path is
 
 pub pathSays-is : (m : Map) (p : Key) (b : Bool) (w : Option ℕ) → isPrefixIn p m ≡ b → lookup p m ≡ w → pathSays m p ≡ cond b 1 0 + cond (given w) 2 0
 unfolding pathSays
 pathSays-is m p b w e f = rw (e, f)
+
+-- the two tests of an answer
+pub answer-tells : (m : Map) (p : Key) (a : Answer) → saidAnswer a ≡ pathSays m p → (tellsPrefix a ≡ isPrefixIn p m) × (tellsMatch a ≡ given (lookup p m))
+answer-tells m p a e = go (isPrefixIn p m) refl (lookup p m) refl a e
+  where
+    go : (b : Bool)
+        → isPrefixIn p m ≡ b
+        → (w : Option ℕ)
+        → lookup p m ≡ w
+        → (x : Answer)
+        → saidAnswer x ≡ pathSays m p
+        → (tellsPrefix x ≡ isPrefixIn p m) × (tellsMatch x ≡ given (lookup p m))
+    go b f w g x said = rw (f, g) (told b w x (said ∙ pathSays-is m p b w f g))
+      where
+        told : (b : Bool) (w : Option ℕ) (x : Answer) → saidAnswer x ≡ cond b 1 0 + cond (given w) 2 0 → (tellsPrefix x ≡ b) × (tellsMatch x ≡ given w)
+        told true none Prefix e = (refl, refl)
+        told true none Match e = absurd (omega arith)
+        told true none PrefixAndMatch e = absurd (omega arith)
+        told true (some v) Prefix e = absurd (omega arith)
+        told true (some v) Match e = absurd (omega arith)
+        told true (some v) PrefixAndMatch e = (refl, refl)
+        told false none Prefix e = absurd (omega arith)
+        told false none Match e = absurd (omega arith)
+        told false none PrefixAndMatch e = absurd (omega arith)
+        told false (some v) Prefix e = absurd (omega arith)
+        told false (some v) Match e = (refl, refl)
+        told false (some v) PrefixAndMatch e = absurd (omega arith)
 
 -- a node but the root has a path that some key begins with
 pub someBegins-node : (m : Map) → Rising m → (k : ℕ) → IsNode m k → 2 ≤ k → SomeBegins (pathOf m k) m
@@ -79,6 +111,30 @@ module _ (m : Map) where
       let rest : walkable m (p ++ (a ∷ [])) q ≡ j =
       walkable-is q (p ++ (a ∷ [])) j (rw (join (take j q)) on) (omega arith) (λ b n. past (omega arith) (rw (join (take (suc j) q)) at n)) in
       rw there (ap suc rest)
+
+  -- so many labels lead on, and one more does not
+  pub record Walked (p q : Key) (j : ℕ) : Type 0 where
+    pub short : j ≤ length q
+    pub leads : In (p ++ take j q) (nodes m)
+    pub ends : j < length q → ¬ In (p ++ take (suc j) q) (nodes m)
+
+  pub walkable-told : (q p : Key) → In p (nodes m) → Walked p q (walkable m p q)
+  unfolding walkable
+  walkable-told [] p on = record { short = omega arith; leads = rw (append-nil p) on; ends = λ l. absurd (omega arith) }
+  walkable-told (a ∷ q) p on = go (isPath m (p ++ (a ∷ []))) refl (walkable-told q (p ++ (a ∷ [])))
+    where
+      join : (r : Key) → (p ++ (a ∷ [])) ++ r ≡ p ++ (a ∷ r)
+      join r = append-assoc p (a ∷ []) r
+
+      go : (t : Bool)
+          → isPath m (p ++ (a ∷ [])) ≡ t
+          → (In (p ++ (a ∷ [])) (nodes m) → Walked (p ++ (a ∷ [])) q (walkable m (p ++ (a ∷ [])) q))
+          → Walked p (a ∷ q) (walkable m p (a ∷ q))
+      go true e rest =
+          let w = rest (isPath-iff m (p ++ (a ∷ [])) .0 e) in
+          rw e (record { short = omega (arith, w .short); leads = rw (join _) at (w .leads); ends = λ l n. w .ends (omega arith) (rw (join _) n) })
+      go false e rest =
+          rw e (record { short = omega arith; leads = rw (append-nil p) on; ends = λ l n. true≢false (sym (isPath-iff m (p ++ (a ∷ [])) .1 n) ∙ e) })
 
   pub follow-empty : (p q : Key) → length q ≡ 0 → followIn m p q ≡ saysErr 0
   follow-empty p [] e = refl
@@ -152,3 +208,52 @@ pub goto-promise : (i : Image) (k : ℕ) (said : List ℕ) (node : ℕ)
     → Promise said (gotoSays i k) (placeAt node) (gotoMoves i k)
 unfolding gotoSays gotoMoves
 goto-promise i k said node p = p
+
+-- ---- where the place is left, by paths
+
+module _ (i : Image) (tested : imageTest i ≡ true) (k : ℕ) (n : IsNode (imageMap i) k) where
+  fromPlace-kept : (to : ℕ) → fromPlace i k to ≡ to
+  fromPlace-kept to = rw (tested, isNode-iff (imageMap i) k .1 n)
+
+  pub query-moves : (a : ℕ) → In (pathOf (imageMap i) k ++ (a ∷ [])) (nodes (imageMap i)) → pathOf (imageMap i) (queryMoves i k a) ≡ pathOf (imageMap i) k ++ (a ∷ [])
+  unfolding queryMoves
+  query-moves a on =
+      let m : Map = imageMap i in
+      let q : Key = pathOf m k ++ (a ∷ []) in
+      ap (pathOf m) (fromPlace-kept _ ∙ rw (isPath-iff m q .1 on)) ∙ pathOf-nodeOf m q on
+
+  pub query-stays : (a : ℕ) → ¬ In (pathOf (imageMap i) k ++ (a ∷ [])) (nodes (imageMap i)) → queryMoves i k a ≡ k
+  unfolding queryMoves
+  query-stays a off = fromPlace-kept _ ∙ rw (path-not (imageMap i) (pathOf (imageMap i) k ++ (a ∷ [])) off)
+
+  pub follow-moves : (q : Key) → pathOf (imageMap i) (followMoves i k q) ≡ pathOf (imageMap i) k ++ take (walkable (imageMap i) (pathOf (imageMap i) k) q) q
+  unfolding followMoves
+  follow-moves q =
+      let m : Map = imageMap i in
+      let p : Key = pathOf m k in
+      ap (pathOf m) (fromPlace-kept _) ∙ pathOf-nodeOf m (p ++ take (walkable m p q) q) (walkable-told m q p (pathOf-in m k n) .leads)
+
+  pub goto-stays : isPrefixIn (pathOf (imageMap i) k) (imageMap i) ≡ false → gotoMoves i k ≡ k
+  unfolding gotoMoves
+  goto-stays e = fromPlace-kept _ ∙ rw e
+
+  -- "the place moves to the longest common prefix q of K"
+  pub goto-moves : isPrefixIn (pathOf (imageMap i) k) (imageMap i) ≡ true
+      → (pathOf (imageMap i) (gotoMoves i k) ≡ commonBelow (imageMap i) (pathOf (imageMap i) k)) × LongestCommon (longer (pathOf (imageMap i) k) (imageMap i)) (commonBelow (imageMap i) (pathOf (imageMap i) k))
+  unfolding gotoMoves
+  goto-moves e =
+      let m : Map = imageMap i in
+      let p : Key = pathOf m k in
+      let (d, own, begins, far) = isPrefixIn-iff p m .0 e in
+      let among : In d (longer p m) = longer-iff p m d .1 (own, begins, far) in
+      let whole = commonOfAll-longest (longer p m) d among in
+      let on : In (commonBelow m p) (nodes m) = nodes-iff m (commonBelow m p) .1 (inr (d, own, whole .common d among)) in
+      (ap (pathOf m) (fromPlace-kept _ ∙ rw e) ∙ pathOf-nodeOf m (commonBelow m p) on, whole)
+
+-- a path with a single child is left at once: every longer key goes through the child
+pub goto-key-single : (m : Map) → Rising m → (p : Key) (a : ℕ) → childrenIn m p ≡ (p ++ (a ∷ [])) ∷ [] → PrefixOf (p ++ (a ∷ [])) (commonBelow m p)
+goto-key-single m r p a only =
+    let (b, path, (d, own, begins)) = childrenIn-iff m p (p ++ (a ∷ [])) .0 (rw only (here refl)) in
+    let all = longer-single m r p a only in
+    let among : In d (beginning (p ++ (a ∷ [])) m) = beginning-iff (p ++ (a ∷ [])) m d .1 (own, begins) in
+    rw all (longestCommon-begins (beginning (p ++ (a ∷ [])) m) (commonOfAll (beginning (p ++ (a ∷ [])) m)) (p ++ (a ∷ [])) d among (commonOfAll-longest _ d among) (λ e at. beginning-iff (p ++ (a ∷ [])) m e .0 at .1))

@@ -47,7 +47,6 @@ pub data Ask : Type 0 where
   untilTo : ℕ → Key → Ask
   goto : ℕ → Ask
   gotoTo : ℕ → Ask
-
   start : Kind → Key → Ask
   step : Cursor → Ask
 
@@ -70,7 +69,6 @@ answer i (until k q) = followSays i k q
 answer i (untilTo k q) = followMoves i k q ∷ []
 answer i (goto k) = gotoSays i k
 answer i (gotoTo k) = gotoMoves i k ∷ []
-
 answer i (start kind q) = startSays kind i q
 answer i (step c) = stepSays i c
 
@@ -154,7 +152,6 @@ lines =
     ∷ record { lent = damaged; ask = goto 0; says = 6 ∷ [] }
     ∷ record { lent = damaged; ask = longest [] []; says = 6 ∷ [] }
     ∷ record { lent = damaged; ask = prefix 0 []; says = 6 ∷ [] }
-
     ∷ record { lent = emptyMap; ask = start Predictive []; says = 0 ∷ 0 ∷ [] }
     ∷ record { lent = mapA; ask = start Predictive []; says = 0 ∷ 0 ∷ 1 ∷ 0 ∷ [] }
     ∷ record { lent = mapA; ask = step (Open Predictive 1 0); says = 0 ∷ 4 ∷ 7 ∷ 0 ∷ 1 ∷ 4 ∷ [] }

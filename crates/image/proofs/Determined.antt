@@ -21,7 +21,7 @@ use Rattle.image.proofs.Laws.AcceptAnswer.{said-checked-one}
 module _ (κs : Lfts 3) where
   pub accept-determined : (a : ArgsD accept.signature κs) (r₁ r₂ : ResD accept.signature κs) (s₁ s₂ : AtExit (endedOf 3 accept-kinds.ps accept-kinds.r) κs)
       → accept-reads.Post κs a r₁ s₁ → accept-reads.Post κs a r₂ s₂ → r₁ ≡ r₂
-  accept-determined a r₁ r₂ s₁ s₂ p q = said-checked-one r₁ r₂ (p ∙ sym q)
+  accept-determined a r₁ r₂ s₁ s₂ p q = said-checked-one r₁ r₂ (p .0 ∙ sym (q .0))
 
   pub is-image-determined : (a : ArgsD is_image.signature κs) (r₁ r₂ : ResD is_image.signature κs) (s₁ s₂ : AtExit (endedOf 3 is-image-kinds.ps is-image-kinds.r) κs)
       → is-image-reads.Post κs a r₁ s₁ → is-image-reads.Post κs a r₂ s₂ → r₁ ≡ r₂

@@ -15,6 +15,9 @@ use records::soundness::is_sound;
 use records::words::RECORD_WORDS;
 use records::words::used_count;
 ghost use mathlib.Core.Path.{_≡_};
+ghost use mathlib.Core.Logic.{_↔_};
+ghost use mathlib.Core.List.{[], _∷_};
+ghost use Rattle.image.specs.Accept.{OfMap};
 ghost use Rattle.image.specs.Meaning.{lent};
 ghost use Rattle.image.specs.AcceptAnswer.{saidChecked, acceptSays};
 ghost use Rattle.image.specs.Build.{saidBuilt, buildSays, buildLabels, buildValues, buildWords, buildScratch};
@@ -22,6 +25,7 @@ ghost use Rattle.image.specs.Build.{saidBuilt, buildSays, buildLabels, b
 // Refuses slices that are no map's image. It only reads.
 pub fn accept(labels: &[u16], values: &[u32], words: &[u64]) -> Checked
     ensures answer { λ r. ⌜ saidChecked r ≡ acceptSays (lent (now (labels .entry)) (now (values .entry)) (now (words .entry))) ⌝ }
+    ensures of_map { λ r. ⌜ (saidChecked r ≡ 0 ∷ []) ↔ OfMap (lent (now (labels .entry)) (now (values .entry)) (now (words .entry))) ⌝ }
 {
     if !is_image(labels, values, words) {
         return Checked::NotAnImage;

@@ -3,6 +3,7 @@
 --     acceptSays-accepted, acceptSays-refused   by the test
 --     accept-means-map                          0 exactly if some map with nonempty keys has the image
 --     accept-means-none                         6 exactly if none has
+--     said-means-map                            an answer that says what the test says is 0 exactly if some map has the image
 --     said-checked-one                          two answers that say the same are the same
 -- Assumes nothing.
 use mathlib.Core.Path.{_≡_, refl, sym, ap, _∙_}
@@ -55,6 +56,9 @@ accept-means-none i l = go (told i l)
     go : Told i → (acceptSays i ≡ refusalNumber Refusal.NotAnImage ∷ []) ↔ (OfMap i → ⊥)
     go (Told.image-of e m) = (λ h. let y = acceptSays-accepted i e in let z : _≡_ {A = ℕ} 0 6 = cc in absurd (omega arith), λ n. absurd (n m))
     go (Told.no-image e n) = (λ h. n, λ m. acceptSays-refused i e)
+
+pub said-means-map : (i : Image) → Lent i → (r : Checked) → saidChecked r ≡ acceptSays i → (saidChecked r ≡ 0 ∷ []) ↔ OfMap i
+said-means-map i l r e = (λ h. accept-means-map i l .0 (sym e ∙ h), λ m. e ∙ accept-means-map i l .1 m)
 
 -- the answer that is heard
 heardChecked : List ℕ → Checked

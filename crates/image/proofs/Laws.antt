@@ -14,5 +14,6 @@ pub mod HeldBits
 pub mod Turns
 pub mod Queueing
 pub mod Build
+pub mod LevelPaths
 pub mod PoolImage
 pub mod History

@@ -2,7 +2,7 @@
 -- On the trie the children of a path are the path with each label that hangs below it, and one floor is the children of the floor above it.
 --
 --     childrenIn-forest    the children of a path, on the trie
---     prefixes-children    the prefixes are the children of the root and of the prefixes, in turn
+--     prefixes-children    the prefixes are the children of the root and of the prefixes, in turn; `forest-children` on the trie
 -- Assumes nothing.
 use mathlib.Core.Path.{_≡_, refl, sym, ap, ap₂, _∙_}
 use Prim.Native.Nat.{ℕ, zero, suc, _+_, _<_}
@@ -227,7 +227,7 @@ unfolding flatMap
 flatMap-cong g h e [] = refl
 flatMap-cong g h e (x ∷ xs) = rw (e x, flatMap-cong g h e xs)
 
-forest-children : (f : Forest) → Orderly f → prefixes (listForest f) ≡ flatMap (childrenIn (listForest f)) ([] ∷ prefixes (listForest f))
+pub forest-children : (f : Forest) → Orderly f → prefixes (listForest f) ≡ flatMap (childrenIn (listForest f)) ([] ∷ prefixes (listForest f))
 forest-children f s =
     sym (flatMap-cong (childrenIn (listForest f)) (pathsBelow f) (childrenIn-forest f s) ([] ∷ prefixes (listForest f)) ∙ paths-prefixes f s)
 

@@ -1,7 +1,9 @@
 // The image test: are these slices the image of some map? One pass over the bits, linear in n, with no memory of its own; it ends on any words.
 // Node m is the m-th one, and its parent is the count of zeros before it. A one right after a one is the next sibling of the node before,
 // and a zero right after a zero closes a node without child.
+use louds::WORD_BITS;
 use louds::bit_at;
+use records::words::MOST_RECORDS;
 ghost use mathlib.Core.Path.{_≡_};
 ghost use Prim.Native.Nat.{ℕ, _+_, _*_, _≤_, _<_};
 ghost use lib.ListN.{length};
@@ -10,11 +12,9 @@ ghost use Rattle.image.specs.Meaning.{lent};
 ghost use Rattle.image.specs.AcceptTest.{entryFits, labelsRise, oneFits, childlessFits, bitFits, passesFrom, imageTest};
 
 // What a value adds to its label.
-const MARK: u16 = 256;
+pub const MARK: u16 = records::words::MARK as u16;
 // An image has no more nodes besides the root.
-const MOST_NODES: usize = 4096;
-
-const WORD_BITS: usize = 64;
+const MOST_NODES: usize = MOST_RECORDS as usize;
 
 // An entry is below 512, and an unmarked one has value 0.
 fn entry_fits(entry: u16, value: u32) -> bool

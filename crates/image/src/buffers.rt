@@ -1,10 +1,9 @@
 // What build needs of its buffers.
+use louds::WORD_BITS;
 ghost use mathlib.Core.Path.{_≡_};
 ghost use Rattle.keymap.specs.Bits.{wordsFor};
 ghost use Rattle.keymap.specs.Image.{bitsFor};
 ghost use Rattle.image.specs.Build.{buffersFit};
-
-const WORD_BITS: usize = 64;
 
 // How many words the bits of n nodes besides the root take.
 pub fn words_for(n: u32) -> usize

@@ -10,6 +10,7 @@ use crate::answers::Checked;
 use crate::breadth_first::write_levels;
 use crate::buffers::buffers_fit;
 use crate::entries::write_entries;
+pub use acceptance::MARK;
 pub use acceptance::is_image;
 use records::soundness::is_sound;
 use records::words::RECORD_WORDS;

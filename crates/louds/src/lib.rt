@@ -7,6 +7,7 @@ mod nodes;
 mod rank;
 mod select;
 
+pub use bits::WORD_BITS;
 pub use bits::bit_at;
 pub use bits::put_one;
 pub use nodes::children;

@@ -3,6 +3,7 @@ ghost use mathlib.Core.Path.{_≡_};
 ghost use lib.Count.{ones};
 ghost use Rattle.keymap.specs.Bits.{bit};
 ghost use Rattle.louds.specs.Rank.{onesBefore, zerosBefore};
+use crate::bits::WORD_BITS;
 use crate::bits::word_at;
 
 // At most 64, so the count fits.
@@ -16,7 +17,7 @@ fn ones_in(word: u64) -> usize
 pub fn ones_before(words: &[u64], i: usize) -> usize
     ensures { λ r. ⌜ r ≡ onesBefore (bit (now (words .entry))) i ⌝ }
 {
-    let whole = i / 64;
+    let whole = i / WORD_BITS;
     let mut total: usize = 0;
     let mut w: usize = 0;
     while w < whole {
@@ -26,7 +27,7 @@ pub fn ones_before(words: &[u64], i: usize) -> usize
         total += ones_in(words[w]);
         w += 1;
     }
-    let mask = (1u64 << (i % 64)) - 1;
+    let mask = (1u64 << (i % WORD_BITS)) - 1;
     total + ones_in(word_at(words, whole) & mask)
 }
 

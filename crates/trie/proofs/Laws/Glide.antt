@@ -18,8 +18,8 @@ use Rattle.keymap.specs.Members.{In, here}
 use Rattle.keymap.specs.Key.{Key, PrefixOf}
 use Rattle.keymap.specs.Map.{Map, lookup}
 use Rattle.keymap.specs.Queries.{SomeBegins, beginning, commonOfAll}
-use Rattle.keymap.specs.Image.{Image, childrenIn, degree}
-use Rattle.keymap.specs.Paths.{nodes, IsNode, pathOf, nodeOf}
+use Rattle.keymap.specs.Image.{Image, degree}
+use Rattle.keymap.specs.Paths.{nodes, pathOf, nodeOf}
 use Rattle.keymap.specs.Decode.{imageMap}
 use Rattle.keymap.proofs.Laws.Begins.{prefix-refl, prefix-length}
 use Rattle.keymap.proofs.Laws.Queries.{beginning-iff, commonOfAll-longest, longestCommon-begins}
@@ -30,8 +30,7 @@ use Rattle.trie.specs.declared.walk.Stand.{Stand}
 use Rattle.trie.specs.declared.prefix.Glided.{Glided}
 use Rattle.trie.specs.Walk.{Standing, standAt, kidsOf}
 use Rattle.trie.specs.Glide.{commonOf, standPath, OnwardTo, glidedFrom}
-use Rattle.trie.proofs.Laws.Image.{length-nodes}
-use Rattle.trie.proofs.Laws.Walk.{standing-at, standing-is, KidsAt, kids-node, KidAt, kid-node}
+use Rattle.trie.proofs.Laws.Walk.{standing-at, standing-is, kids-node, KidAt, kid-node}
 
 -- a path that ends and has no value is the root's, and the map is empty
 common-ends : (m : Map) (p : Key) → In p (nodes m) → (SomeBegins p m → ⊥) → commonOf m p ≡ p

@@ -5,7 +5,7 @@
 --     value-root, prefixLen-root, prefix-root           "at the root no value, empty, 0"
 --     prefix-refused, prefix-strange, prefix-short, prefix-written    what `prefix` says, and the buffer afterwards
 -- Assumes nothing.
-use mathlib.Core.Path.{_≡_, refl, sym, ap, _∙_}
+use mathlib.Core.Path.{_≡_, refl, ap, _∙_}
 use Prim.Native.Nat.{ℕ, _≤_, _<_}
 use native.Mathlib.Omega.{arith}
 use mathlib.Core.Bool.{true, false}

@@ -12,8 +12,8 @@ use Prim.Native.Nat.{ℕ, zero, suc, _+_, _-_, _≤_, _<_}
 use native.Mathlib.Decide.{decLe}
 use native.Mathlib.Omega.{arith}
 use mathlib.Core.List.{List, [], _∷_, _++_, append-assoc}
-use lib.ListN.{length, getD, take, drop, set, length-append, length-take, length-drop, length-set, take-append-drop}
-use lib.Seq.{drop-length, take-suc, drop-at, drop-cons, set-at, length-take-le}
+use lib.ListN.{length, getD, take, drop, set, length-append, length-take, length-drop, take-append-drop}
+use lib.Seq.{drop-length, take-suc, drop-at, set-at, length-take-le}
 use Rattle.keymap.specs.Key.{Key, PrefixOf, lastByte}
 use Rattle.keymap.specs.Map.{Map, Catalogue, lookup}
 use Rattle.keymap.specs.Label.{labelIn}

@@ -74,7 +74,7 @@ returns-3 : tie.Need-returns-3
 returns-3 c =
     let start = c .before .before .before .before .before .before .before .before .before .before in
     let b = c .before in
-    let is = apart b _ _ (key-fresh (imageAt start) (start .args .out .now) (tested (c .before .before .before .before)) (kindAt b) (topAt b) (lastAt b) (c .if2 .taken)) in
+    let is = apart b _ _ (key-fresh (imageAt start) (start .args .out .now) (tested (c .before .before .before .before)) (kindAt b) (topAt b) (lastAt b) (omega arith)) in
     (sym (is .says-is), sym (is .after-is))
 
 cast-stands : tie.Need-cast-stands
@@ -98,7 +98,7 @@ belonging : (c : tie.Else3) → belongs (imageMap (imageAt (c .before .before .b
 belonging c = sym (c .before .stands .ensures) ∙ not-false _ (c .if3 .left)
 
 below : (c : tie.Else3) → Under (imageMap (imageAt (c .before .before .before .before .before .before .before .before .before .before .before .before))) (topAt (c .before .before .before)) (lastAt (c .before .before .before))
-below c = belongs-under _ _ _ _ (whole (c .before .before .before .before .before .before) .catalogue .rising) (belonging c) (c .before .before .if2 .left)
+below c = belongs-under _ _ _ _ (whole (c .before .before .before .before .before .before) .catalogue .rising) (belonging c) (omega arith)
 
 cast-given-len : tie.Need-cast-given-len
 cast-given-len c = search needs
@@ -114,7 +114,7 @@ returns-5 c =
     let start = c .before .before .before .before .before .before .before .before .before .before .before .before .before .before in
     let b = c .before .before .before .before .before in
     let long = c .before .given-len .ensures in
-    let is = apart b _ _ (key-short (imageAt start) (start .args .out .now) (tested (c .before .before .before .before .before .before .before .before)) (kindAt b) (topAt b) (lastAt b) (belonging (c .before .before)) (c .before .before .before .before .if2 .left) (omega arith)) in
+    let is = apart b _ _ (key-short (imageAt start) (start .args .out .now) (tested (c .before .before .before .before .before .before .before .before)) (kindAt b) (topAt b) (lastAt b) (belonging (c .before .before)) (omega arith) (omega arith)) in
     (sym (is .says-is), sym (is .after-is))
 
 cast-spell : tie.Need-cast-spell
@@ -135,7 +135,7 @@ returns-6 c =
     let start = c .before .before .before .before .before .before .before .before .before .before .before .before .before .before .before .before .before .before in
     let b = c .before .before .before .before .before .before .before .before .before in
     let long = c .before .before .before .before .before .given-len .ensures in
-    let is = apart b _ _ (key-written (imageAt start) (start .args .out .now) (tested (c .before .before .before .before .before .before .before .before .before .before .before .before)) (kindAt b) (topAt b) (lastAt b) (belonging (c .before .before .before .before .before .before)) (c .before .before .before .before .before .before .before .before .if2 .left) (omega arith)) in (
+    let is = apart b _ _ (key-written (imageAt start) (start .args .out .now) (tested (c .before .before .before .before .before .before .before .before .before .before .before .before)) (kindAt b) (topAt b) (lastAt b) (belonging (c .before .before .before .before .before .before)) (omega arith) (omega arith)) in (
       ap (λ n. 0 ∷ n ∷ []) long ∙ sym (is .says-is),
       c .before .before .spell .ensures ∙ givenKey-spelled _ _ _ (below (c .before .before .before .before .before .before)) (kindAt b) _ (start .args .out .now) long ∙ sym (is .after-is),
     )

@@ -1,11 +1,12 @@
 -- `trie::given_key::given_len` meets its contract: in a postfix listing the top's path does not count. Assumes nothing.
 use mathlib.Core.Path.{_≡_, sym, ap, subst, _∙_}
-use Prim.Native.Nat.{ℕ, _-_}
+use Prim.Native.Nat.{_-_}
 use native.Mathlib.Omega.{arith}
 use lib.ListN.{length}
 use borrow.Author.Needs.{needs}
 use Rattle.keymap.specs.Map.{Map}
 use Rattle.keymap.specs.Decode.{imageMap}
+use Rattle.keymap.proofs.Laws.Paths.{pathOf-root}
 use Rattle.image.specs.Meaning.{lent}
 use Rattle.trie.specs.declared.Kind.{Kind}
 use Rattle.trie.specs.GivenKey.{givenKey}
@@ -31,7 +32,7 @@ depth-requires-2 c κs = search needs
 sub-result : tie.Need-sub-result
 sub-result c =
     let start = c .before .before .before .before .before .before .before in
-    omega (arith, c .before .before .before .depth .ensures, c .depth2 .ensures, givenKey-behind (mapAt start) (start .args .top) (start .args .node) (start .pre .1))
+    omega (arith, c .before .before .before .depth .ensures, c .depth2 .ensures, givenKey-behind (mapAt start) (start .args .top) (start .args .node) (start .pre .1), ap length (pathOf-root (mapAt start)))
 
 returns : tie.Need-returns
 returns c =

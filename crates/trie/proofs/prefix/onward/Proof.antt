@@ -19,7 +19,10 @@ abbrev imageAt : tie.Start → Image
 imageAt start = lent (start .args .labels .now) (start .args .values .now) (start .args .words .now)
 
 value-at-requires : tie.Need-value-at-requires
-value-at-requires c κs = let start = c .before .before .before in (start .pre .0, start .pre .1 .inside)
+value-at-requires c κs =
+    let start = c .before .before .before in
+    let inside = start .pre .1 .inside in
+    (start .pre .0, omega arith)
 
 enum-told : tie.Need-enum-told
 enum-told c = search needs

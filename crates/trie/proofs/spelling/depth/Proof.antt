@@ -32,7 +32,7 @@ deeper : (c : tie.After-parent-of Inv-loop μ-loop)
     × (c .parent-of .result < c .before .before .loop .at)
 deeper c =
     let start = c .before .before .before .before .before .before in
-    depth-up (imageMap (imageAt start)) (start .pre .0 .catalogue) _ _ _ (c .before .before .loop .inv) (c .parent-of .result) (c .before .loop-test .taken) (c .parent-of .ensures)
+    depth-up (imageMap (imageAt start)) (start .pre .0 .catalogue) _ _ _ (c .before .before .loop .inv) (c .parent-of .result) (omega arith) (c .parent-of .ensures)
 
 add-count : tie.Need-add-count Inv-loop μ-loop
 add-count c =
@@ -48,7 +48,7 @@ loop-again c = deeper c .0
 returns : tie.Need-returns Inv-loop μ-loop
 returns c =
     let start = c .before .before .before .before .before in
-    depth-ends (imageMap (imageAt start)) (start .pre .0 .catalogue) _ _ _ (c .before .loop .inv) (c .loop-test .left)
+    depth-ends (imageMap (imageAt start)) (start .pre .0 .catalogue) _ _ _ (c .before .loop .inv) (omega arith)
 
 pub depth-spec : {M : Type 1} → statement M
 depth-spec =

@@ -35,7 +35,7 @@ sub-left c = omega arith
 low : (c : tie.In-loop Inv-loop μ-loop) → 2 ≤ c .before .loop .at
 low c =
     let start = c .before .before .before .before .before .before in
-    spell-low (imageMap (imageAt start)) (start .pre .0 .catalogue) _ _ _ (start .pre .1 .1 .0) (start .pre .1 .1 .1) _ _ _ (c .before .loop .inv) (c .loop-test .taken)
+    spell-low (imageMap (imageAt start)) (start .pre .0 .catalogue) _ _ _ (start .pre .1 .1 .0) (start .pre .1 .1 .1) _ _ _ (c .before .loop .inv) (omega arith)
 
 sub-label-in : tie.Need-sub-label-in Inv-loop μ-loop
 sub-label-in c = omega (arith, low c)
@@ -76,7 +76,7 @@ loop-again c =
     let inv = c .before .before .before .before .loop .inv in
     let byte = c .before .label-in .ensures ∙ label-node i (start .pre .0) at (inv .inside) (low (c .before .before .before)) in
     subst (λ b. Spelling (imageMap i) (start .args .node) (start .args .count) (start .args .out .now) (c .parent-of .result) (left - 1) (set out (left - 1) b)) (sym byte)
-    (spell-up (imageMap i) (start .pre .0 .catalogue) _ _ _ (start .pre .1 .1 .0) (start .pre .1 .1 .1) at left out inv (c .parent-of .result) (c .before .before .before .loop-test .taken) (c .parent-of .ensures))
+    (spell-up (imageMap i) (start .pre .0 .catalogue) _ _ _ (start .pre .1 .1 .0) (start .pre .1 .1 .1) at left out inv (c .parent-of .result) (omega arith) (c .parent-of .ensures))
 
 same-length : tie.Need-same-length Inv-loop μ-loop
 same-length c =
@@ -86,7 +86,7 @@ same-length c =
 returns : tie.Need-returns Inv-loop μ-loop
 returns c =
     let start = c .before .before .before .before .before .before in
-    spell-ends (imageMap (imageAt start)) (start .pre .0 .catalogue) _ _ _ (start .pre .1 .1 .0) (start .pre .1 .1 .1) _ _ _ (c .before .loop .inv) (c .loop-test .left)
+    spell-ends (imageMap (imageAt start)) (start .pre .0 .catalogue) _ _ _ (start .pre .1 .1 .0) (start .pre .1 .1 .1) _ _ _ (c .before .loop .inv) (omega arith)
 
 pub spell-spec : {M : Type 1} → statement M
 spell-spec =

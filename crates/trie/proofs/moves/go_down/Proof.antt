@@ -114,7 +114,8 @@ held c t e = sym (c .value-at .ensures) ∙ ap heldValue e
 returns-3 : tie.Need-returns-3
 returns-3 c =
     let start = c .before .before .before .before .before .before .before .before .before .before .before .before .before .before .before in
-    goto-key (imageAt start) (start .pre .0) (start .args .node) _ _ (gone (c .before .before .before .before)) (held (c .before .before) _ (c .enum-told .given .1))
+    let moved = goto-key (imageAt start) (start .pre .0) (start .args .node) _ _ (gone (c .before .before .before .before)) (held (c .before .before) _ (c .enum-told .given .1)) in
+    record { answers = moved .answers; stands = moved .stands }
 
 returns-4 : tie.Need-returns-4
 returns-4 c =

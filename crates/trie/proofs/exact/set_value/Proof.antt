@@ -82,7 +82,7 @@ inside c =
     (omega (arith, number, low), omega (arith, number, node, length-nodes i h, length-values i h))
 
 sub-values : tie.Need-sub-values
-sub-values c = inside c .0
+sub-values c = omega (arith, inside c .0)
 
 mul-values : tie.Need-mul-values
 mul-values c = omega (arith, inside c, length-values _ (whole (c .before .before .before .before .before)), whole (c .before .before .before .before .before) .few)

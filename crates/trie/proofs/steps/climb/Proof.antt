@@ -2,6 +2,7 @@
 -- The measure is `at`: parents have lower numbers. Assumes nothing.
 use mathlib.Core.Path.{subst}
 use Prim.Native.Nat.{_<_}
+use native.Mathlib.Omega.{arith}
 use borrow.Author.Needs.{needs}
 use Rattle.keymap.specs.Paths.{pathOf}
 use Rattle.keymap.specs.Map.{Map}
@@ -33,7 +34,7 @@ beside-requires c κs =
     let a = s .args in
     let inv = c .before .loop .inv in (
       s .pre .0,
-      (inv .inside, climb-higher (mapAt s) (s .pre .0 .catalogue) (a .top) (a .node) (s .pre .1 .0) (c .before .loop .at) inv (c .loop-test .taken)),
+      (inv .inside, climb-higher (mapAt s) (s .pre .0 .catalogue) (a .top) (a .node) (s .pre .1 .0) (c .before .loop .at) inv (omega arith)),
     )
 
 enum-known-next : tie.Need-enum-known-next Inv-loop μ-loop
@@ -47,7 +48,7 @@ returns c =
     let at = c .before .before .before .before .before .loop .at in
     let turned = subst (Turned m (pathOf m at)) (c .before .next .given .1) (c .before .before .before .beside .ensures) in (
       turned .0,
-      climb-sibling m (s .pre .0 .catalogue) (a .top) (a .node) (s .pre .1 .0) at (c .before .before .before .before .before .loop .inv) (c .before .before .before .before .loop-test .taken) _ (turned .1),
+      climb-sibling m (s .pre .0 .catalogue) (a .top) (a .node) (s .pre .1 .0) at (c .before .before .before .before .before .loop .inv) (omega arith) _ (turned .1),
     )
 
 enum-known-up : tie.Need-enum-known-up Inv-loop μ-loop
@@ -67,7 +68,7 @@ goes-on c =
     let m = mapAt s in
     let at = c .before .before .before .before .before .loop .at in
     let turned = subst (Turned m (pathOf m at)) (c .before .up .given .1) (c .before .before .before .beside .ensures) in
-    climb-up m (s .pre .0 .catalogue) (a .top) (a .node) (s .pre .1 .0) at (c .before .before .before .before .before .loop .inv) (c .before .before .before .before .loop-test .taken) _ (turned .0) (turned .1)
+    climb-up m (s .pre .0 .catalogue) (a .top) (a .node) (s .pre .1 .0) at (c .before .before .before .before .before .loop .inv) (omega arith) _ (turned .0) (turned .1)
 
 loop-less : tie.Need-loop-less Inv-loop μ-loop
 loop-less c = goes-on c .1
@@ -79,7 +80,7 @@ returns-2 : tie.Need-returns-2 Inv-loop μ-loop
 returns-2 c =
     let s = c .before .before .before .before .before in
     let a = s .args in
-    climb-ends (mapAt s) (s .pre .0 .catalogue) (a .top) (a .node) (s .pre .1 .0) (c .before .loop .at) (c .loop-test .left) (c .before .loop .inv)
+    climb-ends (mapAt s) (s .pre .0 .catalogue) (a .top) (a .node) (s .pre .1 .0) (c .before .loop .at) (omega arith) (c .before .loop .inv)
 
 pub climb-spec : {M : Type 1} → statement M
 climb-spec =

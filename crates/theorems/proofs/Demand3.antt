@@ -1,0 +1,134 @@
+-- Demand 3, by the laws of histories: each call on a sound pool answers what the map tells, and build writes the image of the map that the pool holds.
+--
+--     every-history       demand 3 of any pool of 5 words or more and any calls
+--     map-alone           the image that a build leaves is told by the map
+-- Assumes nothing.
+use Prim.Native.Nat.{ℕ, _≤_, _<_}
+use mathlib.Core.Path.{_≡_, refl, sym, ap, _∙_}
+use mathlib.Core.Logic.{_↔_}
+use mathlib.Core.Bool.{Bool, true, false}
+use mathlib.Core.List.{List, [], _∷_}
+use native.Mathlib.Omega.{arith}
+use lib.ListN.{length, take}
+use lib.Dec.{leb, eqb}
+use borrow.Author.Tests.{ne-eqb, leb-false, leb-true}
+use Rattle.keymap.specs.Key.{Key}
+use Rattle.keymap.specs.Map.{Map, Catalogue, insert}
+use Rattle.keymap.specs.Prefixes.{prefixes}
+use Rattle.keymap.specs.Refusals.{Refusal, refusalNumber}
+use Rattle.keymap.specs.Bits.{wordsFor, pack}
+use Rattle.keymap.specs.Image.{Image, bitsFor, image, imageBits}
+use Rattle.keymap.proofs.Laws.Image.{length-imageLabels, length-imageValues, length-imageBits}
+use Rattle.keymap.proofs.Laws.Bits.{length-pack}
+use Rattle.records.specs.Words.{Pool, recordWords, capacity}
+use Rattle.records.specs.Sound.{Sound}
+use Rattle.records.specs.Meaning.{poolMap}
+use Rattle.pool.specs.Answers.{accepted}
+use Rattle.pool.specs.Reset.{resetPool}
+use Rattle.pool.specs.Push.{pushSays}
+use Rattle.pool.specs.History.{Call as PoolCall, AllLent, callPool, runPool, mapSays}
+use Rattle.pool.proofs.Laws.Reset.{reset-done, reset-sound, length-reset}
+use Rattle.pool.proofs.Laws.History.{call-says, call-sound, call-capacity, reset-run-sound, reset-run-map, reset-run-within}
+use Rattle.image.specs.History.{Call, poolCalls}
+use Rattle.image.specs.Build.{buffersFit, fitSays, buildSays}
+use Rattle.image.specs.Buffers.{over}
+use Rattle.image.proofs.Laws.Buffers.{take-over}
+use Rattle.image.proofs.Laws.PoolImage.{Shows}
+use Rattle.image.proofs.Laws.History.{build-says, reset-run-says, reset-run-build}
+use Rattle.theorems.specs.Built.{poolAfter, mapAfter, builtImage}
+use Rattle.theorems.specs.Demand3.{EveryHistory, MapAlone}
+
+-- calls leave a pool of the same capacity
+run-capacity : (cs : List PoolCall) (p : Pool) → Sound p → AllLent cs → capacity (runPool p cs) ≡ capacity p
+unfolding runPool
+run-capacity [] p s l = refl
+run-capacity (c ∷ cs) p s l = run-capacity cs (callPool p c) (call-sound p s c (l .0)) (l .1) ∙ call-capacity p s c (l .0)
+
+-- a push of a nonempty key, by whether the prefixes would be too many
+push-room : (most : ℕ) (m : Map) (k : Key) (v : ℕ) → ¬ (k ≡ []) → (mapSays most m (PoolCall.push k v) ≡ refusalNumber Refusal.NoRoom ∷ []) ↔ (most < length (prefixes (insert k v m)))
+push-room most m [] v n = absurd (n refl)
+push-room most m (b ∷ k) v n = go (leb size most) refl
+  where
+    size : ℕ
+    size = length (prefixes (insert (b ∷ k) v m))
+
+    some : eqb (length (b ∷ k)) 0 ≡ false
+    some = ne-eqb (length (b ∷ k)) 0 (λ e. omega arith)
+
+    go : (t : Bool) → leb size most ≡ t → (mapSays most m (PoolCall.push (b ∷ k) v) ≡ refusalNumber Refusal.NoRoom ∷ []) ↔ (most < size)
+    go true e =
+        let done : mapSays most m (PoolCall.push (b ∷ k) v) ≡ 0 ∷ [] = rw (some, e) in
+        (λ h. let z : _≡_ {A = ℕ} 0 4 = cc in absurd (omega arith), λ h. absurd (omega (arith, leb-true size most e)))
+    go false e = (λ h. leb-false size most e, λ h. rw (some, e))
+
+-- the number in an answer of a build that is accepted
+fit-count : (n m labels values words scratch : ℕ) → fitSays m labels values words scratch ≡ 0 ∷ n ∷ [] → n ≡ m
+unfolding fitSays
+fit-count n m labels values words scratch h = go (buffersFit m labels values words scratch) refl
+  where
+    go : (t : Bool) → buffersFit m labels values words scratch ≡ t → n ≡ m
+    go true e = let g : 0 ∷ m ∷ [] ≡ 0 ∷ n ∷ [] = rw e at h in cc
+    go false e = let g : refusalNumber Refusal.OutTooSmall ∷ [] ≡ 0 ∷ n ∷ [] = rw e at h in let z : _≡_ {A = ℕ} 0 5 = cc in absurd (omega arith)
+
+-- what lies over the front of a buffer is its leading part
+front : (n : ℕ) (xs ys : List ℕ) (after : List ℕ) → n ≡ length xs → after ≡ over xs ys → take n after ≡ xs
+front n xs ys after e h = ap (λ (k : ℕ). take k after) e ∙ ap (take (length xs)) h ∙ take-over xs ys
+
+image-front : (n : ℕ) (p : Pool) (m : Map) (ls vs ws qs : List ℕ) → Catalogue m → n ≡ length (prefixes m) → Shows (image m) p ls vs ws qs → builtImage n p ls vs ws qs ≡ image m
+unfolding builtImage image
+image-front n p m ls vs ws qs c e s =
+    let labels = front n _ ls _ (e ∙ sym (length-imageLabels m)) (s .labels-show) in
+    let values = front n _ vs _ (e ∙ sym (length-imageValues m)) (s .values-show) in
+    let size : wordsFor (bitsFor n) ≡ length (pack (imageBits m)) = ap (λ (k : ℕ). wordsFor (bitsFor k)) e ∙ sym (length-pack (imageBits m) ∙ ap wordsFor (length-imageBits m c)) in
+    let words = front (wordsFor (bitsFor n)) _ ws _ size (s .words-show) in
+    λ i. record { labels = labels i; values = values i; words = words i }
+
+module _ (p : Pool) (h : recordWords ≤ length p) (cs : List Call) (lent : AllLent (poolCalls cs)) where
+  after : Pool
+  after = poolAfter p cs
+
+  sound : Sound (poolAfter p cs)
+  sound = reset-run-sound p h (poolCalls cs) lent
+
+  holds : poolMap (poolAfter p cs) ≡ mapAfter p cs
+  holds = reset-run-map p h (poolCalls cs) lent
+
+  same : capacity (poolAfter p cs) ≡ capacity p
+  same =
+      let e : capacity (resetPool p) ≡ capacity p = rw (length-reset p) in
+      run-capacity (poolCalls cs) (resetPool p) (reset-sound p h) lent ∙ e
+
+  -- one more call answers what the map tells
+  says : (c : PoolCall) → mapSays (capacity (poolAfter p cs)) (poolMap (poolAfter p cs)) c ≡ mapSays (capacity p) (mapAfter p cs) c
+  says c = let n = same in let m = holds in λ i. mapSays (n i) (m i) c
+
+  room : (k : Key) → ¬ (k ≡ []) → (v : ℕ) → (pushSays (poolAfter p cs) k ≡ refusalNumber Refusal.NoRoom ∷ []) ↔ (capacity p < length (prefixes (insert k v (mapAfter p cs))))
+  room k n v =
+      let told = call-says (poolAfter p cs) sound (PoolCall.push k v) ∙ says (PoolCall.push k v) in
+      let (from, to) = push-room (capacity p) (mapAfter p cs) k v n in
+      (λ e. from (sym told ∙ e), λ e. told ∙ to e)
+
+  builds : (n : ℕ) (ls vs ws qs : List ℕ) → buildSays (poolAfter p cs) ls vs ws qs ≡ 0 ∷ n ∷ []
+      → (n ≡ length (prefixes (mapAfter p cs))) × (builtImage n (poolAfter p cs) ls vs ws qs ≡ image (mapAfter p cs))
+  builds n ls vs ws qs e =
+      let count : n ≡ length (prefixes (poolMap (poolAfter p cs))) =
+      fit-count n (length (prefixes (poolMap (poolAfter p cs)))) (length ls) (length vs) (length ws) (length qs) (sym (build-says (poolAfter p cs) sound ls vs ws qs) ∙ e) in
+      let whole : n ≡ length (prefixes (mapAfter p cs)) = count ∙ ap (λ (m : Map). length (prefixes m)) holds in
+      let shown = reset-run-build p h cs lent ls vs ws qs (ap accepted e) in
+      (whole, image-front n (poolAfter p cs) (mapAfter p cs) ls vs ws qs (reset-run-within p h (poolCalls cs) lent .0) whole shown)
+
+pub every-history : EveryHistory
+every-history p h cs lent =
+    record {
+      resets = sym (reset-done p h .0);
+      answers = reset-run-says p h cs lent;
+      holds = holds p h cs lent;
+      counts = call-says (poolAfter p cs) (sound p h cs lent) PoolCall.useCount ∙ says p h cs lent PoolCall.useCount;
+      room = room p h cs lent;
+      within = reset-run-within p h (poolCalls cs) lent .1;
+      builds = builds p h cs lent;
+    }
+
+pub map-alone : MapAlone
+map-alone p q hp hq cs ds lp lq e n m ls vs ws qs ls₂ vs₂ ws₂ qs₂ one other =
+    builds p hp cs lp n ls vs ws qs one .1 ∙ ap image e ∙ sym (builds q hq ds lq m ls₂ vs₂ ws₂ qs₂ other .1)

@@ -1,0 +1,3 @@
+pub mod Built
+pub mod Demand3
+pub mod Acceptance

@@ -1,3 +1,5 @@
 pub mod Built
 pub mod Demand3
 pub mod Acceptance
+pub mod Listing
+pub mod Worked

@@ -1,4 +1,5 @@
 pub mod Built
+pub mod Demand1
 pub mod Demand3
 pub mod Acceptance
 pub mod Listing

@@ -137,7 +137,7 @@ module _ (i : Image) (h : MapImage i) where
   emits = ap (λ (x : Image). x .words) (sym (h .whole) ∙ image-forest m (h .catalogue)) ∙ ap pack (sym (emitted-forestBits ((treeOf m) .1)))
 
   searches : Searches (imageMap i) i
-  unfolding longestSays longestOut commonPart stepSays
+  unfolding longestSays longestOut commonPart stepSays keySays keyOut
   searches = record {
     level-order = words-are i h;
     emits = emits;
@@ -151,6 +151,7 @@ module _ (i : Image) (h : MapImage i) where
     predictive = λ q e. beginning-iff q m e;
     postfix = λ q e. longer-iff q m e;
     cursor-key = cursor-key;
+    key = λ c out. (rw test, rw test);
     step = λ c. rw test;
     finished = λ kind. stepSays-finished i kind test;
     places = λ p on. (nodeOf-node m p on, pathOf-nodeOf m p on, at-path p on);

@@ -4,45 +4,33 @@
 --     map-alone           the image that a build leaves is told by the map
 -- Assumes nothing.
 use Prim.Native.Nat.{ℕ, _≤_, _<_}
-use mathlib.Core.Path.{_≡_, refl, sym, ap, _∙_}
+use mathlib.Core.Path.{_≡_, refl, sym, ap, subst, _∙_}
 use mathlib.Core.Logic.{_↔_}
 use mathlib.Core.Bool.{Bool, true, false}
 use mathlib.Core.List.{List, [], _∷_}
 use native.Mathlib.Omega.{arith}
-use lib.ListN.{length, take}
+use lib.ListN.{length}
 use lib.Dec.{leb, eqb}
 use borrow.Author.Tests.{ne-eqb, leb-false, leb-true}
 use Rattle.keymap.specs.Key.{Key}
 use Rattle.keymap.specs.Map.{Map, Catalogue, insert}
 use Rattle.keymap.specs.Prefixes.{prefixes}
 use Rattle.keymap.specs.Refusals.{Refusal, refusalNumber}
-use Rattle.keymap.specs.Bits.{wordsFor, pack}
-use Rattle.keymap.specs.Image.{Image, bitsFor, image, imageBits}
-use Rattle.keymap.proofs.Laws.Image.{length-imageLabels, length-imageValues, length-imageBits}
-use Rattle.keymap.proofs.Laws.Bits.{length-pack}
+use Rattle.keymap.specs.Image.{image}
 use Rattle.records.specs.Words.{Pool, recordWords, capacity}
 use Rattle.records.specs.Sound.{Sound}
 use Rattle.records.specs.Meaning.{poolMap}
-use Rattle.pool.specs.Answers.{accepted}
 use Rattle.pool.specs.Reset.{resetPool}
 use Rattle.pool.specs.Push.{pushSays}
-use Rattle.pool.specs.History.{Call as PoolCall, AllLent, callPool, runPool, mapSays}
+use Rattle.pool.specs.History.{Call as PoolCall, AllLent, mapSays}
 use Rattle.pool.proofs.Laws.Reset.{reset-done, reset-sound, length-reset}
-use Rattle.pool.proofs.Laws.History.{call-says, call-sound, call-capacity, reset-run-sound, reset-run-map, reset-run-within}
+use Rattle.pool.proofs.Laws.History.{call-says, reset-run-sound, reset-run-map, reset-run-within}
 use Rattle.image.specs.History.{Call, poolCalls}
-use Rattle.image.specs.Build.{buffersFit, fitSays, buildSays}
-use Rattle.image.specs.Buffers.{over}
-use Rattle.image.proofs.Laws.Buffers.{take-over}
-use Rattle.image.proofs.Laws.PoolImage.{Shows}
-use Rattle.image.proofs.Laws.History.{build-says, reset-run-says, reset-run-build}
+use Rattle.image.specs.Build.{buildSays}
+use Rattle.image.proofs.Laws.History.{reset-run-says}
 use Rattle.theorems.specs.Built.{poolAfter, mapAfter, builtImage}
 use Rattle.theorems.specs.Demand3.{EveryHistory, MapAlone}
-
--- calls leave a pool of the same capacity
-run-capacity : (cs : List PoolCall) (p : Pool) → Sound p → AllLent cs → capacity (runPool p cs) ≡ capacity p
-unfolding runPool
-run-capacity [] p s l = refl
-run-capacity (c ∷ cs) p s l = run-capacity cs (callPool p c) (call-sound p s c (l .0)) (l .1) ∙ call-capacity p s c (l .0)
+use Rattle.theorems.proofs.Built.{run-capacity, built-image}
 
 -- a push of a nonempty key, by whether the prefixes would be too many
 push-room : (most : ℕ) (m : Map) (k : Key) (v : ℕ) → ¬ (k ≡ []) → (mapSays most m (PoolCall.push k v) ≡ refusalNumber Refusal.NoRoom ∷ []) ↔ (most < length (prefixes (insert k v m)))
@@ -61,32 +49,7 @@ push-room most m (b ∷ k) v n = go (leb size most) refl
         (λ h. let z : _≡_ {A = ℕ} 0 4 = cc in absurd (omega arith), λ h. absurd (omega (arith, leb-true size most e)))
     go false e = (λ h. leb-false size most e, λ h. rw (some, e))
 
--- the number in an answer of a build that is accepted
-fit-count : (n m labels values words scratch : ℕ) → fitSays m labels values words scratch ≡ 0 ∷ n ∷ [] → n ≡ m
-unfolding fitSays
-fit-count n m labels values words scratch h = go (buffersFit m labels values words scratch) refl
-  where
-    go : (t : Bool) → buffersFit m labels values words scratch ≡ t → n ≡ m
-    go true e = let g : 0 ∷ m ∷ [] ≡ 0 ∷ n ∷ [] = rw e at h in cc
-    go false e = let g : refusalNumber Refusal.OutTooSmall ∷ [] ≡ 0 ∷ n ∷ [] = rw e at h in let z : _≡_ {A = ℕ} 0 5 = cc in absurd (omega arith)
-
--- what lies over the front of a buffer is its leading part
-front : (n : ℕ) (xs ys : List ℕ) (after : List ℕ) → n ≡ length xs → after ≡ over xs ys → take n after ≡ xs
-front n xs ys after e h = ap (λ (k : ℕ). take k after) e ∙ ap (take (length xs)) h ∙ take-over xs ys
-
-image-front : (n : ℕ) (p : Pool) (m : Map) (ls vs ws qs : List ℕ) → Catalogue m → n ≡ length (prefixes m) → Shows (image m) p ls vs ws qs → builtImage n p ls vs ws qs ≡ image m
-unfolding builtImage image
-image-front n p m ls vs ws qs c e s =
-    let labels = front n _ ls _ (e ∙ sym (length-imageLabels m)) (s .labels-show) in
-    let values = front n _ vs _ (e ∙ sym (length-imageValues m)) (s .values-show) in
-    let size : wordsFor (bitsFor n) ≡ length (pack (imageBits m)) = ap (λ (k : ℕ). wordsFor (bitsFor k)) e ∙ sym (length-pack (imageBits m) ∙ ap wordsFor (length-imageBits m c)) in
-    let words = front (wordsFor (bitsFor n)) _ ws _ size (s .words-show) in
-    λ i. record { labels = labels i; values = values i; words = words i }
-
 module _ (p : Pool) (h : recordWords ≤ length p) (cs : List Call) (lent : AllLent (poolCalls cs)) where
-  after : Pool
-  after = poolAfter p cs
-
   sound : Sound (poolAfter p cs)
   sound = reset-run-sound p h (poolCalls cs) lent
 
@@ -111,11 +74,8 @@ module _ (p : Pool) (h : recordWords ≤ length p) (cs : List Call) (lent : AllL
   builds : (n : ℕ) (ls vs ws qs : List ℕ) → buildSays (poolAfter p cs) ls vs ws qs ≡ 0 ∷ n ∷ []
       → (n ≡ length (prefixes (mapAfter p cs))) × (builtImage n (poolAfter p cs) ls vs ws qs ≡ image (mapAfter p cs))
   builds n ls vs ws qs e =
-      let count : n ≡ length (prefixes (poolMap (poolAfter p cs))) =
-      fit-count n (length (prefixes (poolMap (poolAfter p cs)))) (length ls) (length vs) (length ws) (length qs) (sym (build-says (poolAfter p cs) sound ls vs ws qs) ∙ e) in
-      let whole : n ≡ length (prefixes (mapAfter p cs)) = count ∙ ap (λ (m : Map). length (prefixes m)) holds in
-      let shown = reset-run-build p h cs lent ls vs ws qs (ap accepted e) in
-      (whole, image-front n (poolAfter p cs) (mapAfter p cs) ls vs ws qs (reset-run-within p h (poolCalls cs) lent .0) whole shown)
+      subst (λ (m : Map). (n ≡ length (prefixes m)) × (builtImage n (poolAfter p cs) ls vs ws qs ≡ image m)) holds
+      (built-image (poolAfter p cs) sound (subst Catalogue (sym holds) (reset-run-within p h (poolCalls cs) lent .0)) n ls vs ws qs e)
 
 pub every-history : EveryHistory
 every-history p h cs lent =

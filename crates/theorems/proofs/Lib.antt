@@ -1,7 +1,9 @@
 pub mod Demand1
+pub mod Built
 pub mod Demand3
 pub mod Acceptance
-pub mod Determined
-pub mod Worked
 pub mod Listing
 pub mod Demand2
+pub mod NotReset
+pub mod Worked
+pub mod Determined

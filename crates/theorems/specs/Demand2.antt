@@ -38,8 +38,8 @@ use Rattle.trie.specs.Answers.{saysValue, saysFlag}
 use Rattle.trie.specs.Exact.{exactSays, setValues, isPrefixSays}
 use Rattle.trie.specs.Prefix.{saysWritten, writtenTo, saysLongest, writtenLongest, longestSays, longestOut}
 use Rattle.trie.specs.CommonPrefixes.{saysCommon, commonSays, partOf, commonPart}
-use Rattle.trie.specs.Cursors.{given, setOf, onCursor, saysEnd, stepIn, stepSays}
-use Rattle.trie.specs.GivenKey.{keySays, keyOut}
+use Rattle.trie.specs.Cursors.{given, setOf, belongs, onCursor, saysEnd, stepIn, stepSays}
+use Rattle.trie.specs.GivenKey.{keyOf, saysKey, writtenKey, keySays, keyOut}
 use Rattle.trie.specs.Incremental.{queryIn, querySays, queryMoves, walkable, followIn, followSays, followMoves, commonBelow, gotoIn, gotoSays, gotoMoves}
 use Rattle.trie.specs.Places.{resumeSays, valueSays, prefixLenSays, prefixSays, prefixOut}
 use Rattle.theorems.specs.Built.{poolAfter, mapAfter, builtImage}
@@ -100,7 +100,9 @@ pub record Searches (m : Map) (i : Image) : Type 0 where
   -- the cursor that a step gave an entry with has its key
   pub cursor-key : (kind : Kind) (q : Key) (e : Entry) → In e (setOf m kind q) → (out : List ℕ)
       → (keySays i (Open kind (nodeOf m q) (nodeOf m (e .0))) out ≡ saysWritten (listedKey kind q (e .0)) out) × (keyOut i (Open kind (nodeOf m q) (nodeOf m (e .0))) out ≡ writtenTo (listedKey kind q (e .0)) out)
-  -- any cursor: BadPlace where it does not belong, and "A step on a finished cursor ends at once, and again each time"
+  -- and any cursor: "a key is asked of a cursor that is fresh or finished" is BadPlace too
+  pub key : (c : Cursor) (out : List ℕ) → (keySays i c out ≡ onCursor m c (saysKey (keyOf m c) out)) × (keyOut i c out ≡ cond (belongs m c) (writtenKey (keyOf m c) out) out)
+  -- a step on any cursor: BadPlace where it does not belong, and "A step on a finished cursor ends at once, and again each time"
   pub step : (c : Cursor) → stepSays i c ≡ onCursor m c (stepIn m c)
   pub finished : (kind : Kind) → stepSays i (Finished kind) ≡ saysEnd kind
   -- "A place is a node number 1 to n+1": each path of the map is one node's, and each node has one

@@ -3,5 +3,6 @@ pub mod Demand1
 pub mod Demand3
 pub mod Acceptance
 pub mod Listing
-pub mod Worked
 pub mod Demand2
+pub mod NotReset
+pub mod Worked

@@ -3,7 +3,7 @@
 --     every-history       demand 3 of any pool of 5 words or more and any calls
 --     map-alone           the image that a build leaves is told by the map
 -- Assumes nothing.
-use Prim.Native.Nat.{ℕ, _≤_, _<_}
+use Prim.Native.Nat.{ℕ, _≤_}
 use mathlib.Core.Path.{_≡_, refl, sym, ap, subst, _∙_}
 use mathlib.Core.Logic.{_↔_}
 use mathlib.Core.Bool.{Bool, true, false}
@@ -29,11 +29,11 @@ use Rattle.image.specs.History.{Call, poolCalls}
 use Rattle.image.specs.Build.{buildSays}
 use Rattle.image.proofs.Laws.History.{reset-run-says}
 use Rattle.theorems.specs.Built.{poolAfter, mapAfter, builtImage}
-use Rattle.theorems.specs.Demand3.{EveryHistory, MapAlone}
+use Rattle.theorems.specs.Demand3.{Exceeds, EveryHistory, MapAlone}
 use Rattle.theorems.proofs.Built.{run-capacity, built-image}
 
 -- a push of a nonempty key, by whether the prefixes would be too many
-push-room : (most : ℕ) (m : Map) (k : Key) (v : ℕ) → ¬ (k ≡ []) → (mapSays most m (PoolCall.push k v) ≡ refusalNumber Refusal.NoRoom ∷ []) ↔ (most < length (prefixes (insert k v m)))
+push-room : (most : ℕ) (m : Map) (k : Key) (v : ℕ) → ¬ (k ≡ []) → (mapSays most m (PoolCall.push k v) ≡ refusalNumber Refusal.NoRoom ∷ []) ↔ Exceeds (length (prefixes (insert k v m))) most
 push-room most m [] v n = absurd (n refl)
 push-room most m (b ∷ k) v n = go (leb size most) refl
   where
@@ -43,11 +43,11 @@ push-room most m (b ∷ k) v n = go (leb size most) refl
     some : eqb (length (b ∷ k)) 0 ≡ false
     some = ne-eqb (length (b ∷ k)) 0 (λ e. omega arith)
 
-    go : (t : Bool) → leb size most ≡ t → (mapSays most m (PoolCall.push (b ∷ k) v) ≡ refusalNumber Refusal.NoRoom ∷ []) ↔ (most < size)
+    go : (t : Bool) → leb size most ≡ t → (mapSays most m (PoolCall.push (b ∷ k) v) ≡ refusalNumber Refusal.NoRoom ∷ []) ↔ Exceeds size most
     go true e =
         let done : mapSays most m (PoolCall.push (b ∷ k) v) ≡ 0 ∷ [] = rw (some, e) in
         (λ h. let z : _≡_ {A = ℕ} 0 4 = cc in absurd (omega arith), λ h. absurd (omega (arith, leb-true size most e)))
-    go false e = (λ h. leb-false size most e, λ h. rw (some, e))
+    go false e = (λ h. omega (arith, leb-false size most e), λ h. rw (some, e))
 
 module _ (p : Pool) (h : recordWords ≤ length p) (cs : List Call) (lent : AllLent (poolCalls cs)) where
   sound : Sound (poolAfter p cs)
@@ -65,7 +65,7 @@ module _ (p : Pool) (h : recordWords ≤ length p) (cs : List Call) (lent : AllL
   says : (c : PoolCall) → mapSays (capacity (poolAfter p cs)) (poolMap (poolAfter p cs)) c ≡ mapSays (capacity p) (mapAfter p cs) c
   says c = let n = same in let m = holds in λ i. mapSays (n i) (m i) c
 
-  room : (k : Key) → ¬ (k ≡ []) → (v : ℕ) → (pushSays (poolAfter p cs) k ≡ refusalNumber Refusal.NoRoom ∷ []) ↔ (capacity p < length (prefixes (insert k v (mapAfter p cs))))
+  room : (k : Key) → ¬ (k ≡ []) → (v : ℕ) → (pushSays (poolAfter p cs) k ≡ refusalNumber Refusal.NoRoom ∷ []) ↔ Exceeds (length (prefixes (insert k v (mapAfter p cs)))) (capacity p)
   room k n v =
       let told = call-says (poolAfter p cs) sound (PoolCall.push k v) ∙ says (PoolCall.push k v) in
       let (from, to) = push-room (capacity p) (mapAfter p cs) k v n in

@@ -5,8 +5,8 @@ use mathlib.Core.Path.{_≡_, refl, sym, ap, _∙_}
 use Prim.Native.Nat.{ℕ, zero, suc, _-_}
 use native.Mathlib.Omega.{arith}
 use mathlib.Core.Bool.{true}
-use mathlib.Core.List.{List, [], _∷_, _++_, head?, append-assoc}
-use lib.ListN.{length, replicate}
+use mathlib.Core.List.{List, [], _∷_, _++_, map, head?, append-assoc}
+use lib.ListN.{length, take, replicate}
 use Rattle.keymap.specs.Members.{In, here, there}
 use Rattle.keymap.specs.Key.{Key}
 use Rattle.keymap.specs.Map.{Entry, Map, Rising}
@@ -53,16 +53,18 @@ steps-on k i c d says rest s n r =
 module _ (m : Map) (kind : Kind) (q : Key) where
   given-none : (es : Map) → givenIn 0 m kind q es ≡ []
   unfolding givenIn
-  given-none es = let z : 0 - length es ≡ 0 = omega arith in rw z
+  given-none es = let z : 0 - length es ≡ 0 = omega arith in ap (λ (n : ℕ). replicate n (saysEnd kind)) z
 
   given-end : (k : ℕ) → givenIn k m kind q [] ≡ replicate k (saysEnd kind)
   unfolding givenIn
   given-end zero = refl
-  given-end (suc k) = let z : suc k - length {A = Entry} [] ≡ suc k = omega arith in rw z
+  given-end (suc k) = let z : suc k - length {A = Entry} [] ≡ suc k = omega arith in ap (λ (n : ℕ). replicate n (saysEnd kind)) z
 
   given-entry : (k : ℕ) (e : Entry) (es : Map) → givenIn (suc k) m kind q (e ∷ es) ≡ saysEntry m kind q e ∷ givenIn k m kind q es
   unfolding givenIn
-  given-entry k e es = let z : suc k - length (e ∷ es) ≡ k - length es = omega arith in rw z
+  given-entry k e es =
+      let z : suc k - length (e ∷ es) ≡ k - length es = omega arith in
+      ap (λ (n : ℕ). saysEntry m kind q e ∷ (map (saysEntry m kind q) (take k es) ++ replicate n (saysEnd kind))) z
 
 module _ (i : Image) (image : MapImage i) (kind : Kind) (q : Key) where
   test : imageTest i ≡ true
@@ -123,7 +125,7 @@ module _ (i : Image) (image : MapImage i) (kind : Kind) (q : Key) where
   unfolding listingSays
   listing-is k = go set refl
     where
-      go : (es : Map) → set ≡ es → listingSays k kind i q ≡ givenIn k m kind q set
+      go : (es : Map) → set ≡ es → listingSays k kind i q ≡ listingIn k m kind q
       go [] s =
           let said : startSays kind i q ≡ 0 ∷ saidCursor (Finished kind) = rw s at (startSays-accepted i kind q test) in
           rw said (ap (stepsSay k i) (heard-cursor (Finished kind)) ∙ ends k ∙ sym (given-end m kind q k) ∙ ap (givenIn k m kind q) (sym s))

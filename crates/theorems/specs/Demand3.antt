@@ -20,6 +20,10 @@ use Rattle.image.specs.History.{Call, poolCalls, runSays, mapRunSays}
 use Rattle.image.specs.Build.{buildSays}
 use Rattle.theorems.specs.Built.{poolAfter, mapAfter, builtImage}
 
+-- a number of records is more than a capacity
+abbrev pub Exceeds : ℕ → ℕ → Type 0
+Exceeds n most = most < n
+
 pub record Demand3 (p : Pool) (cs : List Call) : Type 0 where
   -- "beginning with an accepted reset"
   pub resets : resetSays p ≡ 0 ∷ []
@@ -30,7 +34,7 @@ pub record Demand3 (p : Pool) (cs : List Call) : Type 0 where
   -- "the use count .. is the number of distinct nonempty prefixes" of these keys
   pub counts : useCountSays (poolAfter p cs) ≡ 0 ∷ length (prefixes (mapAfter p cs)) ∷ []
   -- a key is "refused for room exactly when that number, with its own prefixes counted in, would exceed the capacity"
-  pub room : (k : Key) → ¬ (k ≡ []) → (v : ℕ) → (pushSays (poolAfter p cs) k ≡ refusalNumber Refusal.NoRoom ∷ []) ↔ (capacity p < length (prefixes (insert k v (mapAfter p cs))))
+  pub room : (k : Key) → ¬ (k ≡ []) → (v : ℕ) → (pushSays (poolAfter p cs) k ≡ refusalNumber Refusal.NoRoom ∷ []) ↔ Exceeds (length (prefixes (insert k v (mapAfter p cs)))) (capacity p)
   -- and so it never does
   pub within : length (prefixes (mapAfter p cs)) ≤ capacity p
   -- an accepted build answers the number of these prefixes, and leaves the image of the map

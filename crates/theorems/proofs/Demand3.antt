@@ -26,8 +26,8 @@ use Rattle.pool.specs.History.{Call as PoolCall, AllLent, mapSays}
 use Rattle.pool.proofs.Laws.Reset.{reset-done, reset-sound, length-reset}
 use Rattle.pool.proofs.Laws.History.{call-says, reset-run-sound, reset-run-map, reset-run-within}
 use Rattle.image.specs.History.{Call, poolCalls}
-use Rattle.image.specs.Build.{buildSays}
-use Rattle.image.proofs.Laws.History.{reset-run-says}
+use Rattle.image.specs.Build.{fitSays, buildSays}
+use Rattle.image.proofs.Laws.History.{build-says, reset-run-says}
 use Rattle.theorems.specs.Built.{poolAfter, mapAfter, builtImage}
 use Rattle.theorems.specs.Demand3.{Exceeds, EveryHistory, MapAlone}
 use Rattle.theorems.proofs.Built.{run-capacity, built-image}
@@ -86,6 +86,7 @@ every-history p h cs lent =
       counts = call-says (poolAfter p cs) (sound p h cs lent) PoolCall.useCount ∙ says p h cs lent PoolCall.useCount;
       room = room p h cs lent;
       within = reset-run-within p h (poolCalls cs) lent .1;
+      needs = λ ls vs ws qs. build-says (poolAfter p cs) (sound p h cs lent) ls vs ws qs ∙ ap (λ (m : Map). fitSays (length (prefixes m)) (length ls) (length vs) (length ws) (length qs)) (holds p h cs lent);
       builds = builds p h cs lent;
     }
 

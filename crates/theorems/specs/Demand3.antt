@@ -17,7 +17,7 @@ use Rattle.pool.specs.UseCount.{useCountSays}
 use Rattle.pool.specs.Push.{pushSays}
 use Rattle.pool.specs.History.{AllLent}
 use Rattle.image.specs.History.{Call, poolCalls, runSays, mapRunSays}
-use Rattle.image.specs.Build.{buildSays}
+use Rattle.image.specs.Build.{fitSays, buildSays}
 use Rattle.theorems.specs.Built.{poolAfter, mapAfter, builtImage}
 
 -- a number of records is more than a capacity
@@ -37,6 +37,8 @@ pub record Demand3 (p : Pool) (cs : List Call) : Type 0 where
   pub room : (k : Key) → ¬ (k ≡ []) → (v : ℕ) → (pushSays (poolAfter p cs) k ≡ refusalNumber Refusal.NoRoom ∷ []) ↔ Exceeds (length (prefixes (insert k v (mapAfter p cs)))) (capacity p)
   -- and so it never does
   pub within : length (prefixes (mapAfter p cs)) ≤ capacity p
+  -- "Build needs the image's lengths and a scratch slice of at least n u32", and is else refused
+  pub needs : (ls vs ws qs : List ℕ) → buildSays (poolAfter p cs) ls vs ws qs ≡ fitSays (length (prefixes (mapAfter p cs))) (length ls) (length vs) (length ws) (length qs)
   -- an accepted build answers the number of these prefixes, and leaves the image of the map
   pub builds : (n : ℕ) (ls vs ws qs : List ℕ) → buildSays (poolAfter p cs) ls vs ws qs ≡ 0 ∷ n ∷ []
       → (n ≡ length (prefixes (mapAfter p cs))) × (builtImage n (poolAfter p cs) ls vs ws qs ≡ image (mapAfter p cs))

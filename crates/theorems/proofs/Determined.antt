@@ -9,6 +9,6 @@ pub use Rattle.lines.proofs.Determined.{tab-line-determined, tab-line-key-deter
 pub use Rattle.trie.proofs.Determined.{exact-match-determined, set-value-determined, is-prefix-determined, longest-prefix-determined}
 pub use Rattle.trie.proofs.Determined.{predictive-search-determined, postfix-search-determined, step-determined, cursor-key-determined, top-determined, finished-determined}
 pub use Rattle.trie.proofs.Determined.{common-prefix-determined, common-prefix-part-determined}
-pub use Rattle.trie.proofs.Determined.{resume-determined, value-determined, prefix-len-determined, prefix-determined, peek-determined}
+pub use Rattle.trie.proofs.Determined.{root-determined, resume-determined, value-determined, prefix-len-determined, prefix-determined, peek-determined}
 pub use Rattle.trie.proofs.Determined.{query-determined, query-until-determined, goto-longest-prefix-determined}
 pub use Rattle.trie.proofs.Determined.{query-at-determined, query-until-at-determined, goto-at-determined, answer-is-prefix-determined, answer-is-match-determined}

@@ -64,6 +64,9 @@ use Rattle.trie.proofs.Cursor.top.Reads as top-reads
 use Rattle.trie.proofs.Cursor.finished
 use Rattle.trie.proofs.Cursor.finished.Kinds as finished-kinds
 use Rattle.trie.proofs.Cursor.finished.Reads as finished-reads
+use Rattle.trie.proofs.place.Place.root
+use Rattle.trie.proofs.place.Place.root.Kinds as root-kinds
+use Rattle.trie.proofs.place.Place.root.Reads as root-reads
 use Rattle.trie.proofs.place.peek
 use Rattle.trie.proofs.place.peek.Kinds as peek-kinds
 use Rattle.trie.proofs.place.peek.Reads as peek-reads
@@ -104,8 +107,8 @@ module _ (κs : Lfts 4) where
   common-prefix-determined a r₁ r₂ s₁ s₂ p q = saidCommon-one r₁ r₂ (p ∙ sym q)
 
   pub common-prefix-part-determined : (a : ArgsD common_prefix_part.signature κs) (r₁ r₂ : ResD common_prefix_part.signature κs) (s₁ s₂ : AtExit (endedOf 4 common-prefix-part-kinds.ps common-prefix-part-kinds.r) κs)
-      → common-prefix-part-reads.Post κs a r₁ s₁ → common-prefix-part-reads.Post κs a r₂ s₂ → now r₁ ≡ now r₂
-  common-prefix-part-determined a r₁ r₂ s₁ s₂ p q = p ∙ sym q
+      → common-prefix-part-reads.Post κs a r₁ s₁ → common-prefix-part-reads.Post κs a r₂ s₂ → (now r₁ ≡ now r₂) × (r₁ .ptr ≡ r₂ .ptr)
+  common-prefix-part-determined a r₁ r₂ s₁ s₂ p q = (p .0 ∙ sym (q .0), p .1 ∙ sym (q .1))
 
   pub predictive-search-determined : (a : ArgsD predictive_search.signature κs) (r₁ r₂ : ResD predictive_search.signature κs) (s₁ s₂ : AtExit (endedOf 4 predictive-search-kinds.ps predictive-search-kinds.r) κs)
       → predictive-search-reads.Post κs a r₁ s₁ → predictive-search-reads.Post κs a r₂ s₂ → r₁ ≡ r₂
@@ -128,6 +131,10 @@ module _ (κs : Lfts 0) where
   pub finished-determined : (a : ArgsD finished.signature κs) (r₁ r₂ : ResD finished.signature κs) (s₁ s₂ : AtExit (endedOf 0 finished-kinds.ps finished-kinds.r) κs)
       → finished-reads.Post κs a r₁ s₁ → finished-reads.Post κs a r₂ s₂ → r₁ ≡ r₂
   finished-determined a r₁ r₂ s₁ s₂ p q = p ∙ sym q
+
+  pub root-determined : (a : ArgsD root.signature κs) (r₁ r₂ : ResD root.signature κs) (s₁ s₂ : AtExit (endedOf 0 root-kinds.ps root-kinds.r) κs)
+      → root-reads.Post κs a r₁ s₁ → root-reads.Post κs a r₂ s₂ → r₁ ≡ r₂
+  root-determined a r₁ r₂ s₁ s₂ p q = p ∙ sym q
 
 module _ (κs : Lfts 3) where
   pub resume-determined : (a : ArgsD resume.signature κs) (r₁ r₂ : ResD resume.signature κs) (s₁ s₂ : AtExit (endedOf 3 resume-kinds.ps resume-kinds.r) κs)

@@ -107,6 +107,7 @@ pub fn common_prefix_part<'a>(
     seen: usize,
 ) -> &'a [u8]
     ensures part { λ r. ⌜ now r ≡ commonPart (lent (now (labels .entry)) (now (values .entry)) (now (words .entry))) (now (query .entry)) seen ⌝ }
+    ensures leading { λ r. ⌜ r .ptr ≡ query .entry .ptr ⌝ }
 {
     let found = common_prefix(labels, values, words, query, seen);
     let length = part_length(found);

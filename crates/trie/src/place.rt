@@ -23,6 +23,13 @@ pub struct Place {
 
 impl Place {
     pub const ROOT: Place = Place { node: 1 };
+
+    // The root place, with a promise: a contract cannot name the constant, so that without this nothing would say which number it has.
+    pub fn root() -> Place
+        ensures { λ r. ⌜ r ≡ placeAt 1 ⌝ }
+    {
+        Place::ROOT
+    }
 }
 
 // A node's number that is to be a place.

@@ -1,5 +1,5 @@
--- `trie::common_prefixes::common_prefix_part` meets its contract: what the first call says is no longer than the query (`part-is`). Assumes nothing.
-use mathlib.Core.Path.{_≡_, sym, ap, _∙_}
+-- `trie::common_prefixes::common_prefix_part` meets its contract: what the first call says is no longer than the query (`part-is`), and the part begins where the query does. Assumes nothing.
+use mathlib.Core.Path.{_≡_, refl, sym, ap, _∙_}
 use Prim.Native.Nat.{ℕ, _≤_}
 use native.Mathlib.Omega.{arith}
 use lib.ListN.{length, take}
@@ -36,7 +36,7 @@ slice-aggregate-result c =
     sym (length-take-le (c .before .part-length .result) (c .before .before .before .before .before .before .before .args .query .now) (part (c .before) .0))
 
 returns : tie.Need-returns
-returns c = part (c .before) .1
+returns c = (part (c .before) .1, refl)
 
 pub common-prefix-part-spec : {M : Type 1} → statement M
 common-prefix-part-spec =

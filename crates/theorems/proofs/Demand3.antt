@@ -3,30 +3,37 @@
 --     every-history       demand 3 of any pool of 5 words or more and any calls
 --     map-alone           the image that a build leaves is told by the map
 -- Assumes nothing.
-use Prim.Native.Nat.{ℕ, _≤_}
+use Prim.Native.Nat.{ℕ, suc, _≤_, _<_}
 use mathlib.Core.Path.{_≡_, refl, sym, ap, subst, _∙_}
-use mathlib.Core.Logic.{_↔_}
+use mathlib.Core.Logic.{_↔_, inl, inr}
 use mathlib.Core.Bool.{Bool, true, false}
 use mathlib.Core.List.{List, [], _∷_}
 use native.Mathlib.Omega.{arith}
-use lib.ListN.{length}
+use lib.ListN.{length, getD}
 use lib.Dec.{leb, eqb}
 use borrow.Author.Tests.{ne-eqb, leb-false, leb-true}
+use Rattle.keymap.specs.Members.{In}
 use Rattle.keymap.specs.Key.{Key}
 use Rattle.keymap.specs.Map.{Map, Catalogue, insert}
 use Rattle.keymap.specs.Prefixes.{prefixes}
 use Rattle.keymap.specs.Refusals.{Refusal, refusalNumber}
 use Rattle.keymap.specs.Image.{image}
-use Rattle.records.specs.Words.{Pool, recordWords, capacity}
+use Rattle.keymap.specs.Paths.{pathOf}
+use Rattle.records.specs.Words.{Pool, recordWords, usedCount, InUse, capacity}
 use Rattle.records.specs.Sound.{Sound}
+use Rattle.records.specs.Spelling as spelling
 use Rattle.records.specs.Meaning.{poolMap}
+use Rattle.records.proofs.Laws.Spelling.{spells-one-record, path-spells}
+use Rattle.records.proofs.Laws.Meaning.{map-prefixes, count-prefixes}
+use Rattle.pool.specs.Answers.{accepted}
 use Rattle.pool.specs.Reset.{resetPool}
 use Rattle.pool.specs.Push.{pushSays}
 use Rattle.pool.specs.History.{Call as PoolCall, AllLent, mapSays}
 use Rattle.pool.proofs.Laws.Reset.{reset-done, reset-sound, length-reset}
 use Rattle.pool.proofs.Laws.History.{call-says, reset-run-sound, reset-run-map, reset-run-within}
 use Rattle.image.specs.History.{Call, poolCalls}
-use Rattle.image.specs.Build.{fitSays, buildSays}
+use Rattle.image.specs.Build.{fitSays, buildSays, buildScratch}
+use Rattle.image.proofs.Laws.LevelPaths.{scratch-node}
 use Rattle.image.proofs.Laws.History.{build-says, reset-run-says}
 use Rattle.theorems.specs.Built.{poolAfter, mapAfter, builtImage}
 use Rattle.theorems.specs.Demand3.{Exceeds, EveryHistory, MapAlone}
@@ -77,6 +84,20 @@ module _ (p : Pool) (h : recordWords ≤ length p) (cs : List Call) (lent : AllL
       subst (λ (m : Map). (n ≡ length (prefixes m)) × (builtImage n (poolAfter p cs) ls vs ws qs ≡ image m)) holds
       (built-image (poolAfter p cs) sound (subst Catalogue (sym holds) (reset-run-within p h (poolCalls cs) lent .0)) n ls vs ws qs e)
 
+  records : (k : Key) → In k (prefixes (mapAfter p cs)) ↔ ((c : ℕ) × InUse (poolAfter p cs) c × (k ≡ spelling.pathOf (poolAfter p cs) c))
+  records k = rw (← holds) (map-prefixes (poolAfter p cs) sound k)
+
+  apart : (c d : ℕ) → InUse (poolAfter p cs) c → InUse (poolAfter p cs) d → spelling.pathOf (poolAfter p cs) c ≡ spelling.pathOf (poolAfter p cs) d → c ≡ d
+  apart c d u v e =
+      spells-one-record (poolAfter p cs) (sound .children) 0 (spelling.pathOf (poolAfter p cs) c) c d (inl refl) (path-spells (poolAfter p cs) sound c (inr u))
+      (subst (λ (k : Key). spelling.Spells (poolAfter p cs) 0 k d) (sym e) (path-spells (poolAfter p cs) sound d (inr v)))
+
+  scratch : (n : ℕ) (ls vs ws qs : List ℕ) → buildSays (poolAfter p cs) ls vs ws qs ≡ 0 ∷ n ∷ [] → (j : ℕ) → j < n
+      → spelling.pathOf (poolAfter p cs) (getD (buildScratch (poolAfter p cs) ls vs ws qs) j 0) ≡ pathOf (mapAfter p cs) (suc (suc j))
+  scratch n ls vs ws qs e j l =
+      let many : n ≡ usedCount (poolAfter p cs) = builds n ls vs ws qs e .0 ∙ ap (λ (m : Map). length (prefixes m)) (sym holds) ∙ count-prefixes (poolAfter p cs) sound in
+      scratch-node (poolAfter p cs) sound ls vs ws qs (ap accepted e) j (omega arith) ∙ ap (λ (m : Map). pathOf m (suc (suc j))) holds
+
 pub every-history : EveryHistory
 every-history p h cs lent =
     record {
@@ -84,10 +105,13 @@ every-history p h cs lent =
       answers = reset-run-says p h cs lent;
       holds = holds p h cs lent;
       counts = call-says (poolAfter p cs) (sound p h cs lent) PoolCall.useCount ∙ says p h cs lent PoolCall.useCount;
+      records = records p h cs lent;
+      apart = apart p h cs lent;
       room = room p h cs lent;
       within = reset-run-within p h (poolCalls cs) lent .1;
       needs = λ ls vs ws qs. build-says (poolAfter p cs) (sound p h cs lent) ls vs ws qs ∙ ap (λ (m : Map). fitSays (length (prefixes m)) (length ls) (length vs) (length ws) (length qs)) (holds p h cs lent);
       builds = builds p h cs lent;
+      scratch = scratch p h cs lent;
     }
 
 pub map-alone : MapAlone

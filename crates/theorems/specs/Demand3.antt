@@ -1,23 +1,26 @@
 -- Demand 3: a pool of fixed length, beginning with an accepted reset, after any calls: resets, pushes, use counts and builds with any arguments, refused ones among them.
 -- Assumes nothing.
-use Prim.Native.Nat.{ℕ, _≤_, _<_}
+use Prim.Native.Nat.{ℕ, suc, _≤_, _<_}
 use mathlib.Core.Path.{_≡_}
 use mathlib.Core.Logic.{_↔_}
 use mathlib.Core.List.{List, [], _∷_}
-use lib.ListN.{length}
+use lib.ListN.{length, getD}
+use Rattle.keymap.specs.Members.{In}
 use Rattle.keymap.specs.Key.{Key}
 use Rattle.keymap.specs.Map.{insert}
 use Rattle.keymap.specs.Prefixes.{prefixes}
 use Rattle.keymap.specs.Refusals.{Refusal, refusalNumber}
 use Rattle.keymap.specs.Image.{image}
-use Rattle.records.specs.Words.{Pool, recordWords, capacity}
+use Rattle.keymap.specs.Paths.{pathOf}
+use Rattle.records.specs.Words.{Pool, recordWords, InUse, capacity}
+use Rattle.records.specs.Spelling as spelling
 use Rattle.records.specs.Meaning.{poolMap}
 use Rattle.pool.specs.Reset.{resetSays, resetPool}
 use Rattle.pool.specs.UseCount.{useCountSays}
 use Rattle.pool.specs.Push.{pushSays}
 use Rattle.pool.specs.History.{AllLent}
 use Rattle.image.specs.History.{Call, poolCalls, runSays, mapRunSays}
-use Rattle.image.specs.Build.{fitSays, buildSays}
+use Rattle.image.specs.Build.{fitSays, buildSays, buildScratch}
 use Rattle.theorems.specs.Built.{poolAfter, mapAfter, builtImage}
 
 -- a number of records is more than a capacity
@@ -33,6 +36,9 @@ pub record Demand3 (p : Pool) (cs : List Call) : Type 0 where
   pub holds : poolMap (poolAfter p cs) ≡ mapAfter p cs
   -- "the use count .. is the number of distinct nonempty prefixes" of these keys
   pub counts : useCountSays (poolAfter p cs) ≡ 0 ∷ length (prefixes (mapAfter p cs)) ∷ []
+  -- the records in use are those prefixes: each is one's path, and no two records have one path
+  pub records : (k : Key) → In k (prefixes (mapAfter p cs)) ↔ ((c : ℕ) × InUse (poolAfter p cs) c × (k ≡ spelling.pathOf (poolAfter p cs) c))
+  pub apart : (c d : ℕ) → InUse (poolAfter p cs) c → InUse (poolAfter p cs) d → spelling.pathOf (poolAfter p cs) c ≡ spelling.pathOf (poolAfter p cs) d → c ≡ d
   -- a key is "refused for room exactly when that number, with its own prefixes counted in, would exceed the capacity"
   pub room : (k : Key) → ¬ (k ≡ []) → (v : ℕ) → (pushSays (poolAfter p cs) k ≡ refusalNumber Refusal.NoRoom ∷ []) ↔ Exceeds (length (prefixes (insert k v (mapAfter p cs)))) (capacity p)
   -- and so it never does
@@ -42,6 +48,9 @@ pub record Demand3 (p : Pool) (cs : List Call) : Type 0 where
   -- an accepted build answers the number of these prefixes, and leaves the image of the map
   pub builds : (n : ℕ) (ls vs ws qs : List ℕ) → buildSays (poolAfter p cs) ls vs ws qs ≡ 0 ∷ n ∷ []
       → (n ≡ length (prefixes (mapAfter p cs))) × (builtImage n (poolAfter p cs) ls vs ws qs ≡ image (mapAfter p cs))
+  -- of the scratch slice "entry j of it ends holding the record number of node j+2"
+  pub scratch : (n : ℕ) (ls vs ws qs : List ℕ) → buildSays (poolAfter p cs) ls vs ws qs ≡ 0 ∷ n ∷ [] → (j : ℕ) → j < n
+      → spelling.pathOf (poolAfter p cs) (getD (buildScratch (poolAfter p cs) ls vs ws qs) j 0) ≡ pathOf (mapAfter p cs) (suc (suc j))
 
 -- any pool of 5 words or more, any history of what can be lent
 abbrev pub EveryHistory : Type 0

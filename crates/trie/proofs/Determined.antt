@@ -1,5 +1,6 @@
 -- Of each public call any two outcomes that its contract allows are equal: the answer, and each lent slice that it may write.
--- Stated over the contract's own claim, so that a clause which is weakened or left out breaks it. Assumes nothing.
+-- Stated over the contract's own claim, so that a clause which is weakened or left out breaks it. Of the three calls that are lent a place the whole contract is one
+-- definition, and the law is about that definition. Assumes nothing.
 use mathlib.Core.Path.{_≡_, sym, ap, _∙_}
 use Prim.Native.Nat.{ℕ}
 use mathlib.Core.List.{List}

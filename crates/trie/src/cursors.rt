@@ -5,7 +5,7 @@ ghost use mathlib.Core.Bool.{true, cond};
 ghost use mathlib.Core.List.{head?};
 ghost use Rattle.keymap.specs.Map.{lookup};
 ghost use Rattle.keymap.specs.Queries.{nonempty, beginning};
-ghost use Rattle.keymap.specs.Paths.{IsNode, isNode, pathOf, nodeOf};
+ghost use Rattle.keymap.specs.Paths.{IsNode, pathOf, nodeOf};
 ghost use Rattle.keymap.specs.Decode.{imageMap};
 ghost use Rattle.image.specs.Meaning.{lent, MapImage};
 ghost use Rattle.trie.specs.declared.Kind.the-variants as kinds;
@@ -24,21 +24,11 @@ use crate::steps::next_valued;
 use crate::walk::Held;
 use crate::walk::Reached;
 use crate::walk::Stand;
+use crate::walk::is_node;
 use crate::walk::kids;
 use crate::walk::value_at;
 use crate::walk::walk;
 use image::is_image;
-
-// Whether a number is a node's.
-fn is_node(labels: &[u16], values: &[u32], words: &[u64], node: usize) -> bool
-    requires { ⌜ MapImage (lent (now labels) (now values) (now words)) ⌝ }
-    ensures { λ r. ⌜ r ≡ isNode (imageMap (lent (now (labels .entry)) (now (values .entry)) (now (words .entry)))) node ⌝ }
-{
-    if node == 0 {
-        return false;
-    }
-    node <= labels.len() + 1
-}
 
 // Whether a node is that of a key of a top's set.
 fn in_set(
@@ -80,8 +70,8 @@ pub fn stands(
     values: &[u32],
     words: &[u64],
     kind: Kind,
-    top: usize,
-    last: usize,
+    top: u32,
+    last: u32,
 ) -> bool
     requires { ⌜ MapImage (lent (now labels) (now values) (now words)) ⌝ }
     ensures { λ r. ⌜ r ≡ belongs (imageMap (lent (now (labels .entry)) (now (values .entry)) (now (words .entry)))) (Open kind top last) ⌝ }
@@ -95,7 +85,7 @@ pub fn stands(
     if !is_node(labels, values, words, last) {
         return false;
     }
-    in_set(labels, values, words, kind, top, last)
+    in_set(labels, values, words, kind, top as usize, last as usize)
 }
 
 // The first key that begins with the top's path: its own, if it has a value.
@@ -218,7 +208,7 @@ pub fn step(labels: &[u16], values: &[u32], words: &[u64], cursor: Cursor) -> St
     let Cursor::Open { kind, top, last } = cursor else {
         return Stepped::End { next: cursor };
     };
-    if !stands(labels, values, words, kind, top as usize, last as usize) {
+    if !stands(labels, values, words, kind, top, last) {
         return Stepped::BadPlace;
     }
     match next_given(labels, values, words, kind, top as usize, last as usize) {

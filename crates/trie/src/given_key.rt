@@ -54,7 +54,7 @@ pub fn cursor_key(
     if last == 0 {
         return Spelled::BadPlace;
     }
-    if !stands(labels, values, words, kind, top as usize, last as usize) {
+    if !stands(labels, values, words, kind, top, last) {
         return Spelled::BadPlace;
     }
     let length = given_len(labels, values, words, kind, top as usize, last as usize);

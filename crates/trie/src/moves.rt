@@ -1,7 +1,7 @@
 // Moving from a node by labels, on numbers. Every function here asks for an image that some map has, and for one of its nodes.
 ghost use mathlib.Core.Path.{_≡_};
 ghost use Prim.Native.Nat.{ℕ, _≤_};
-ghost use Rattle.keymap.specs.Paths.{IsNode, isNode};
+ghost use Rattle.keymap.specs.Paths.{IsNode};
 ghost use Rattle.keymap.specs.Decode.{imageMap};
 ghost use Rattle.image.specs.Meaning.{lent, MapImage};
 ghost use Rattle.trie.specs.Walk.{Standing};
@@ -22,17 +22,6 @@ use crate::walk::kid_at;
 use crate::walk::kids;
 use crate::walk::stand_at;
 use crate::walk::value_at;
-
-// Whether a number is a node's: 1 to n+1.
-pub fn is_node(labels: &[u16], values: &[u32], words: &[u64], node: u32) -> bool
-    requires { ⌜ MapImage (lent (now labels) (now values) (now words)) ⌝ }
-    ensures { λ r. ⌜ r ≡ isNode (imageMap (lent (now (labels .entry)) (now (values .entry)) (now (words .entry)))) node ⌝ }
-{
-    if node == 0 {
-        return false;
-    }
-    node as usize <= labels.len() + 1
-}
 
 // What a node but the root is. One without child has a value.
 fn answer_at(labels: &[u16], values: &[u32], words: &[u64], s: Stand) -> Answer

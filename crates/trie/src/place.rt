@@ -8,11 +8,11 @@ ghost use Rattle.trie.specs.Incremental.{tellsPrefix, tellsMatch, placeA
 use crate::Spelled;
 use crate::moves::follow;
 use crate::moves::go_down;
-use crate::moves::is_node;
 use crate::moves::step_by;
 use crate::spelling::depth;
 use crate::spelling::spell;
 use crate::walk::Held;
+use crate::walk::is_node;
 use crate::walk::value_at;
 use image::is_image;
 

@@ -7,7 +7,7 @@ ghost use lib.ListN.{length};
 ghost use lib.Dec.{eqb};
 ghost use Rattle.keymap.specs.Label.{labelIn};
 ghost use Rattle.keymap.specs.Map.{lookup};
-ghost use Rattle.keymap.specs.Paths.{IsNode, pathOf};
+ghost use Rattle.keymap.specs.Paths.{IsNode, isNode, pathOf};
 ghost use Rattle.keymap.specs.Decode.{imageMap};
 ghost use Rattle.louds.specs.Nodes.{orEnd};
 ghost use Rattle.image.specs.Meaning.{lent, MapImage};
@@ -53,6 +53,17 @@ fn bits_of(labels: &[u16], values: &[u32], words: &[u64]) -> usize
     ensures { λ r. ⌜ r ≡ bitsLength (lent (now (labels .entry)) (now (values .entry)) (now (words .entry))) ⌝ }
 {
     2 * labels.len() + 3
+}
+
+// Whether a number is a node's: 1 to n+1.
+pub fn is_node(labels: &[u16], values: &[u32], words: &[u64], node: u32) -> bool
+    requires { ⌜ MapImage (lent (now labels) (now values) (now words)) ⌝ }
+    ensures { λ r. ⌜ r ≡ isNode (imageMap (lent (now (labels .entry)) (now (values .entry)) (now (words .entry)))) node ⌝ }
+{
+    if node == 0 {
+        return false;
+    }
+    node as usize <= labels.len() + 1
 }
 
 fn or_end(spot: Spot, len: usize) -> usize

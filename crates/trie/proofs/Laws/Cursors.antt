@@ -11,16 +11,16 @@
 --     startSays-refused, startSays-accepted                          what a start says
 --     stepSays-refused, -finished, -bad, -open                       what a step says
 -- Assumes nothing.
-use mathlib.Core.Path.{_≡_, refl, sym, ap, _∙_}
-use mathlib.Core.Logic.{_↔_, inl, inr, ⊎-elim}
-use Prim.Native.Nat.{ℕ, zero, suc, _+_, _≤_, _<_}
+use mathlib.Core.Path.{_≡_, refl, ap, _∙_}
+use mathlib.Core.Logic.{inr, ⊎-elim}
+use Prim.Native.Nat.{ℕ, zero, suc, _<_}
 use native.Mathlib.Omega.{arith}
-use mathlib.Core.Bool.{Bool, true, false, cond, _&&_, true≢false, false≢true}
-use mathlib.Core.List.{List, [], _∷_, head?}
+use mathlib.Core.Bool.{Bool, true, false, cond, _&&_, false≢true}
+use mathlib.Core.List.{[], _∷_, head?}
 use mathlib.Core.Option.{Option, none, some}
 use lib.ListN.{length, getD}
-use lib.Dec.{leb, ltb}
-use borrow.Author.Tests.{le-leb, leb-true, ltb-true, lt-ltb}
+use lib.Dec.{ltb}
+use borrow.Author.Tests.{ltb-true, lt-ltb}
 use Rattle.keymap.specs.Members.{In, here}
 use Rattle.keymap.specs.Refusals.{refusalNumber, NotAnImage, BadPlace}
 use Rattle.keymap.specs.Key.{Key, beginsWith, PrefixOf, extends}
@@ -35,7 +35,7 @@ use Rattle.keymap.proofs.Laws.Begins.{both-true, prefix-empty, prefix-refl, pre
 use Rattle.keymap.proofs.Laws.Map.{lookup-iff, proper-in}
 use Rattle.keymap.proofs.Laws.Queries.{beginning-iff, beginning-rising, beginning-present, beginning-absent, nonempty-beginning, lookup-beginning, longer-iff, longer-rising, lookup-longer, leastAbove-some}
 use Rattle.keymap.proofs.Laws.Prefixes.{prefixes-iff}
-use Rattle.keymap.proofs.Laws.Paths.{indexOf-in, nodes-iff, pathOf-in, nodeOf-node, pathOf-nodeOf, nodeOf-pathOf, tests-same}
+use Rattle.keymap.proofs.Laws.Paths.{isNode-iff, indexOf-in, nodes-iff, pathOf-in, nodeOf-node, pathOf-nodeOf, nodeOf-pathOf, tests-same}
 use Rattle.keymap.proofs.Laws.Steps.{leastAbove-longer, head-longer}
 use Rattle.image.specs.AcceptTest.{imageTest}
 use Rattle.image.specs.Meaning.{MapImage}
@@ -43,23 +43,11 @@ use Rattle.trie.specs.declared.Kind.{Kind}
 use Rattle.trie.specs.declared.Kind.the-variants as kinds
 use Rattle.trie.specs.declared.Cursor.{Cursor}
 use Rattle.trie.specs.declared.Cursor.the-variants.{Open, Finished}
-use Rattle.trie.specs.declared.steps.Given.{Given}
 use Rattle.trie.specs.declared.steps.Given.the-variants as gives
 use Rattle.trie.specs.Answers.{saidCursor}
 use Rattle.trie.specs.Steps.{Under, givenBy}
 use Rattle.trie.specs.Cursors.{setOf, given, lastBelongs, belongs, startSays, nextIn, saysEnd, saysStep, stepSays}
-use Rattle.trie.proofs.Laws.Image.{length-prefixes, length-nodes}
-
-pub isNode-iff : (m : Map) (k : ℕ) → (isNode m k ≡ true) ↔ IsNode m k
-unfolding isNode
-isNode-iff m k = (
-  λ h. let (a, b) = both-true (leb 1 k) (leb k (length (nodes m))) .0 h in (leb-true 1 k a, leb-true k (length (nodes m)) b),
-  λ h. both-true (leb 1 k) (leb k (length (nodes m))) .1 (le-leb 1 k (h .0), le-leb k (length (nodes m)) (h .1)),
-)
-
-pub isNode-zero : (m : Map) (k : ℕ) → k ≡ 0 → isNode m k ≡ false
-unfolding isNode
-isNode-zero m k e = rw e
+use Rattle.trie.proofs.Laws.Image.{length-prefixes}
 
 module _ (m : Map) (rises : Rising m) where
   pub setOf-rising : (kind : Kind) (p : Key) → Rising (setOf m kind p)
@@ -254,12 +242,6 @@ given-inside m r kind p last k v e = go (nextIn m (setOf m kind p) last) refl e
 -- ---- the start
 
 module _ (i : Image) (h : MapImage i) where
-  pub isNode-upto : (k : ℕ) → ¬ (k ≡ 0) → isNode (imageMap i) k ≡ leb k (length (i .labels) + 1)
-  isNode-upto k n =
-      tests-same (isNode (imageMap i) k) (leb k (length (i .labels) + 1))
-      (λ e. le-leb k (length (i .labels) + 1) (omega (arith, isNode-iff (imageMap i) k .0 e .1, length-nodes i h)))
-      (λ e. isNode-iff (imageMap i) k .1 (omega arith, omega (arith, leb-true k (length (i .labels) + 1) e, length-nodes i h)))
-
   -- where there is a node besides the root, some key begins with any node's path
   pub keys-some : (k : ℕ) → IsNode (imageMap i) k → nonempty (beginning (pathOf (imageMap i) k) (imageMap i)) ≡ ltb 0 (length (i .labels))
   keys-some k n =

@@ -3,6 +3,7 @@
 --     labels-are, values-are, words-are
 --                       the slices by the definitions of an image
 --     length-nodes      n entries, and so n + 1 nodes
+--     isNode-is         the test of a number, by the length of the label slice; `isNode-zero`: 0 is none
 --     length-values     as many values
 --     entry-node        the label entry of a node
 --     value-node        its value
@@ -10,18 +11,21 @@
 --     zero-there        the zero of a node, and the one behind the last node's children
 --     run-node          the children of a node, by their numbers and paths
 -- Assumes nothing.
-use mathlib.Core.Path.{_≡_, sym, ap, _∙_}
+use mathlib.Core.Path.{_≡_, refl, sym, ap, _∙_}
 use Prim.Native.Nat.{ℕ, suc, _+_, _-_, _≤_, _<_}
 use native.Mathlib.Omega.{arith}
+use mathlib.Core.Bool.{false}
 use mathlib.Core.List.{List}
 use lib.ListN.{length, getD}
+use lib.Dec.{leb}
+use borrow.Author.Tests.{le-leb}
 use Rattle.keymap.specs.Key.{lastByte}
 use Rattle.keymap.specs.Map.{lookup}
 use Rattle.keymap.specs.Label.{labelEntry, valueWord}
 use Rattle.keymap.specs.Prefixes.{prefixes}
 use Rattle.keymap.specs.Bits.{bit, pack}
 use Rattle.keymap.specs.Image.{Image, bitsFor, degree, image, imageBits, imageLabels, imageValues}
-use Rattle.keymap.specs.Paths.{nodes, IsNode, pathOf}
+use Rattle.keymap.specs.Paths.{nodes, IsNode, isNode, pathOf}
 use Rattle.keymap.specs.Decode.{imageMap}
 use Rattle.keymap.proofs.Laws.Image.{length-imageLabels, length-imageValues}
 use Rattle.keymap.proofs.Laws.Paths.{labels-node, values-node}
@@ -53,6 +57,14 @@ module _ (i : Image) (h : MapImage i) where
   pub length-nodes : length (nodes (imageMap i)) ≡ length (i .labels) + 1
   unfolding nodes
   length-nodes = omega (arith, length-prefixes)
+
+  pub isNode-zero : isNode (imageMap i) 0 ≡ false
+  unfolding isNode
+  isNode-zero = refl
+
+  pub isNode-is : (k : ℕ) → 1 ≤ k → isNode (imageMap i) k ≡ leb k (length (i .labels) + 1)
+  unfolding isNode
+  isNode-is k l = rw (le-leb 1 k l, length-nodes)
 
   pub length-values : length (i .values) ≡ length (i .labels)
   length-values = ap length values-are ∙ length-imageValues (imageMap i) ∙ length-prefixes

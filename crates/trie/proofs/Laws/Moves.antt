@@ -1,13 +1,12 @@
 -- Moving from a node by labels, on an image that some map has: the stand that a walk reached is at the path that is one label longer, so it is the node of the map's path,
 -- and where none was reached the map has no such path.
 --
---     isNode-is         the test of a number, by the length of the label slice
 --     answer-leaf, answer-inner     what a node but the root is
 --     query-found, query-missed     one label
 --     goto-ends, goto-parts     no child, or several; `goto-single`: through the only child, and `goto-key`, `goto-parting` by what is held at the end
 --     follow-next       a label more of a query; `follow-stops`, `follow-nothing` and `follow-ends` where it ends
 -- Assumes nothing.
-use mathlib.Core.Path.{_≡_, refl, sym, ap, _∙_}
+use mathlib.Core.Path.{_≡_, sym, ap, _∙_}
 use Prim.Native.Nat.{ℕ, suc, _+_, _-_, _≤_, _<_}
 use native.Mathlib.Numerals.{add-one}
 use native.Mathlib.Omega.{arith}
@@ -16,14 +15,13 @@ use mathlib.Core.List.{List, [], _∷_, _++_, append-assoc, append-nil}
 use mathlib.Core.Option.{Option, none, some}
 use lib.ListN.{length, getD, take, length-append}
 use lib.Seq.{take-suc, take-all}
-use lib.Dec.{leb}
-use borrow.Author.Tests.{le-leb, lt-ltb, le-ltb}
+use borrow.Author.Tests.{lt-ltb, le-ltb}
 use Rattle.keymap.specs.Members.{In}
 use Rattle.keymap.specs.Key.{Key, PrefixOf}
 use Rattle.keymap.specs.Map.{Map, lookup}
 use Rattle.keymap.specs.Queries.{beginning, longer, isPrefixIn, commonOfAll}
 use Rattle.keymap.specs.Image.{Image}
-use Rattle.keymap.specs.Paths.{nodes, IsNode, isNode, pathOf, nodeOf, isPath}
+use Rattle.keymap.specs.Paths.{nodes, IsNode, pathOf, nodeOf, isPath}
 use Rattle.keymap.specs.Decode.{imageMap}
 use Rattle.keymap.proofs.Laws.Begins.{prefix-trans, prefix-append}
 use Rattle.keymap.proofs.Laws.Paths.{pathOf-in, isPath-iff, nodeOf-pathOf}
@@ -49,14 +47,6 @@ use Rattle.trie.proofs.Laws.Incremental.{pathSays-is, leaf-valued, long
 
 module _ (i : Image) (h : MapImage i) where
   -- ---- numbers of nodes
-
-  pub isNode-zero : isNode (imageMap i) 0 ≡ false
-  unfolding isNode
-  isNode-zero = refl
-
-  pub isNode-is : (k : ℕ) → 1 ≤ k → isNode (imageMap i) k ≡ leb k (length (i .labels) + 1)
-  unfolding isNode
-  isNode-is k l = rw (le-leb 1 k l, length-nodes i h)
 
   -- a node's number is small
   pub node-small : (k : ℕ) → IsNode (imageMap i) k → k ≤ 4097

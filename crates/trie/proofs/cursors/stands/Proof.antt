@@ -6,8 +6,9 @@ use borrow.Author.Tests.{not-true, not-false}
 use Rattle.keymap.specs.Map.{Map}
 use Rattle.keymap.specs.Paths.{isNode}
 use Rattle.keymap.specs.Decode.{imageMap}
+use Rattle.keymap.proofs.Laws.Paths.{isNode-iff}
 use Rattle.image.specs.Meaning.{lent}
-use Rattle.trie.proofs.Laws.Cursors.{isNode-iff, belongs-no-top, belongs-first, belongs-no-last, belongs-last}
+use Rattle.trie.proofs.Laws.Cursors.{belongs-no-top, belongs-first, belongs-no-last, belongs-last}
 use Rattle.trie.proofs.cursors.stands.Statement.{statement}
 use Rattle.trie.proofs.cursors.stands.Tie as tie
 

@@ -62,12 +62,6 @@ returns-2 c =
     ap (λ (d : Cursor). 0 ∷ 0 ∷ saidCursor d) (c .enum-told .given .1)
     ∙ sym (ap (stepSays i) (c .enum-told .given .1) ∙ stepSays-finished i _ (tested (c .before .before)))
 
-cast-stands : tie.Need-cast-stands
-cast-stands c = search needs
-
-cast-stands-2 : tie.Need-cast-stands-2
-cast-stands-2 c = search needs
-
 stands-requires : tie.Need-stands-requires
 stands-requires c κs = whole (c .before .before .before)
 
@@ -158,8 +152,6 @@ step-spec =
     enum-known-cursor
     enum-told
     returns-2
-    cast-stands
-    cast-stands-2
     stands-requires
     returns-3
     cast-next-given

@@ -77,12 +77,6 @@ returns-3 c =
     let is = apart b _ _ (key-fresh (imageAt start) (start .args .out .now) (tested (c .before .before .before .before)) (kindAt b) (topAt b) (lastAt b) (omega arith)) in
     (sym (is .says-is), sym (is .after-is))
 
-cast-stands : tie.Need-cast-stands
-cast-stands c = search needs
-
-cast-stands-2 : tie.Need-cast-stands-2
-cast-stands-2 c = search needs
-
 stands-requires : tie.Need-stands-requires
 stands-requires c κs = whole (c .before .before .before .before)
 
@@ -143,4 +137,4 @@ returns-6 c =
 pub cursor-key-spec : {M : Type 1} → statement M
 cursor-key-spec =
     tie.close
-    (tie.spec is-image-requires returns enum-known-cursor enum-told returns-2 returns-3 cast-stands cast-stands-2 stands-requires returns-4 cast-given-len cast-given-len-2 given-len-requires returns-5 cast-spell spell-requires same-length returns-6)
+    (tie.spec is-image-requires returns enum-known-cursor enum-told returns-2 returns-3 stands-requires returns-4 cast-given-len cast-given-len-2 given-len-requires returns-5 cast-spell spell-requires same-length returns-6)

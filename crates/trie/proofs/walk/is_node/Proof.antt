@@ -1,13 +1,13 @@
--- `trie::moves::is_node` meets its contract: there are as many nodes as label entries, and the root. Assumes nothing.
+-- `trie::walk::is_node` meets its contract: there are as many nodes as label entries, and the root. Assumes nothing.
 use mathlib.Core.Path.{_≡_, sym, ap, _∙_}
 use native.Mathlib.Omega.{arith}
 use borrow.Author.Needs.{needs}
 use Rattle.keymap.specs.Paths.{isNode}
 use Rattle.keymap.specs.Decode.{imageMap}
 use Rattle.image.specs.Meaning.{lent}
-use Rattle.trie.proofs.Laws.Moves.{isNode-zero, isNode-is}
-use Rattle.trie.proofs.moves.is_node.Statement.{statement}
-use Rattle.trie.proofs.moves.is_node.Tie as tie
+use Rattle.trie.proofs.Laws.Image.{isNode-zero, isNode-is}
+use Rattle.trie.proofs.walk.is_node.Statement.{statement}
+use Rattle.trie.proofs.walk.is_node.Tie as tie
 
 returns : tie.Need-returns
 returns c =

@@ -1,7 +1,7 @@
 -- Of each public call any two outcomes that its contract allows are equal: the answer, and each lent slice that it may write.
 -- Stated over the contract's own claim, so that a clause which is weakened or left out breaks it. Of the three calls that are lent a place the whole contract is one
 -- definition, and the law is about that definition. Assumes nothing.
-use mathlib.Core.Path.{_≡_, sym, ap, _∙_}
+use mathlib.Core.Path.{_≡_, sym, _∙_}
 use Prim.Native.Nat.{ℕ}
 use mathlib.Core.List.{List}
 use contract.Lifetimes.{Lfts}
@@ -14,11 +14,8 @@ use Rattle.keymap.specs.Key.{Key}
 use Rattle.keymap.specs.Image.{Image}
 use Rattle.trie.specs.declared.place.Place.{Place}
 use Rattle.trie.specs.declared.place.Queried.{Queried}
-use Rattle.trie.specs.declared.place.QueryMove.{QueryMove}
 use Rattle.trie.specs.declared.place.Followed.{Followed}
-use Rattle.trie.specs.declared.place.FollowMove.{FollowMove}
 use Rattle.trie.specs.declared.place.Gone.{Gone}
-use Rattle.trie.specs.declared.place.GotoMove.{GotoMove}
 use Rattle.trie.specs.Incremental.{Promise, QueryPromise, FollowPromise, GotoPromise}
 use Rattle.trie.proofs.exact.exact_match
 use Rattle.trie.proofs.exact.exact_match.Kinds as exact-match-kinds

@@ -4,7 +4,7 @@
 --     Onward        one step of it, down to the only child of a node without value; or the keys part at the node
 --     glidedFrom    the stand where it ends, and how many labels lead there
 -- Assumes nothing.
-use Prim.Native.Nat.{ℕ, _+_, _-_, _<_}
+use Prim.Native.Nat.{_+_, _-_, _<_}
 use mathlib.Core.Path.{_≡_}
 use lib.ListN.{length}
 use Rattle.keymap.specs.Key.{Key}

@@ -10,17 +10,15 @@ use Prim.Native.Nat.{ℕ, zero, suc, _≤_, _<_}
 use native.Mathlib.Nat.{not-suc-le-zero, le-of-suc-le-suc}
 use native.Mathlib.Decide.{decLe}
 use native.Mathlib.Omega.{arith}
-use mathlib.Core.Bool.{Bool, true, false, cond}
+use mathlib.Core.Bool.{true}
 use mathlib.Core.List.{List, [], _∷_, _++_, head?}
 use mathlib.Core.Option.{Option, none, some}
 use lib.ListN.{length, getD, take, drop, take-append-drop}
 use lib.Seq.{drop-cons}
-use lib.Dec.{ltb}
-use borrow.Author.Tests.{lt-ltb, le-ltb, ltb-true, ltb-false}
 use Rattle.keymap.specs.Members.{In, here}
 use Rattle.keymap.specs.Key.{Key}
 use Rattle.keymap.specs.Map.{Entry, Map, Rising}
-use Rattle.keymap.specs.Queries.{nonempty, leastAbove}
+use Rattle.keymap.specs.Queries.{leastAbove}
 use Rattle.keymap.specs.Image.{Image}
 use Rattle.keymap.specs.Paths.{pathOf, nodeOf}
 use Rattle.keymap.specs.Decode.{imageMap}

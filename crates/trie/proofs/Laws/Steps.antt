@@ -11,8 +11,8 @@
 --     sibling-there       a one behind the node's own: the next number is the next of the siblings, and `sibling-none`
 -- Assumes nothing.
 use mathlib.Core.Path.{_≡_, refl, sym, ap, subst, _∙_}
-use mathlib.Core.Logic.{_↔_, _⊎_, inl, inr, ⊎-elim}
-use Prim.Native.Nat.{ℕ, zero, suc, _+_, _≤_, _<_}
+use mathlib.Core.Logic.{_↔_, _⊎_, inr, ⊎-elim}
+use Prim.Native.Nat.{ℕ, suc, _+_, _≤_, _<_}
 use native.Mathlib.Nat.{lt-of-not-le}
 use native.Mathlib.Omega.{arith}
 use mathlib.Core.Bool.{true}
@@ -42,7 +42,7 @@ use Rattle.louds.specs.declared.Kids.the-variants.{Run, NoNode}
 use Rattle.louds.specs.declared.Up.the-variants.{Node, NoOne}
 use Rattle.louds.specs.Nodes.{childrenOf, parentOf}
 use Rattle.louds.proofs.Laws.Nodes.{sibling-behind}
-use Rattle.louds.proofs.Laws.MapNodes.{mapBits, mapLength, ChildrenOf, children-node, ChildBy, child-label, parent-node}
+use Rattle.louds.proofs.Laws.MapNodes.{mapBits, mapLength, ChildrenOf, children-node, child-label, parent-node}
 use Rattle.image.specs.Meaning.{MapImage}
 use Rattle.trie.specs.Walk.{bitsLength}
 use Rattle.trie.specs.declared.steps.Given.the-variants.{Entry, Nothing}

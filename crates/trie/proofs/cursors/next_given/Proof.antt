@@ -1,6 +1,6 @@
 -- `trie::cursors::next_given` meets its contract: behind a key given both kinds go on alike (`nextIn-later`); a fresh cursor begins with the first of its set.
 -- Assumes nothing.
-use mathlib.Core.Path.{_≡_, sym, ap, _∙_}
+use mathlib.Core.Path.{sym, ap, _∙_}
 use mathlib.Core.Option.{Option}
 use Prim.Native.Nat.{ℕ}
 use borrow.Author.Needs.{needs}

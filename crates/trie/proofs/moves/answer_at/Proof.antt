@@ -1,7 +1,7 @@
 -- `trie::moves::answer_at` meets its contract: it has children exactly if longer keys begin with its path, and without one it is a key. Assumes nothing.
 use mathlib.Core.Path.{_≡_, sym, ap, _∙_}
 use native.Mathlib.Omega.{arith}
-use mathlib.Core.Bool.{true, false}
+use mathlib.Core.Bool.{true}
 use borrow.Author.Needs.{needs}
 use borrow.Author.Tests.{lt-ltb, le-ltb}
 use Rattle.keymap.specs.Map.{lookup}

@@ -1,6 +1,5 @@
 -- `trie::moves::step_by` meets its contract: a step down reaches the path that is one label longer, or there is none. Assumes nothing.
 use mathlib.Core.Path.{_≡_, sym, ap, _∙_}
-use Prim.Native.Nat.{_≤_}
 use native.Mathlib.Omega.{arith}
 use mathlib.Core.List.{[], _∷_, _++_}
 use lib.ListN.{length-append}

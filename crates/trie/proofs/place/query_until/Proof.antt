@@ -9,8 +9,7 @@ use Rattle.image.specs.Meaning.{lent}
 use Rattle.trie.specs.Incremental.{placeAt, FollowPromise}
 use Rattle.trie.specs.declared.place.Place.{Place}
 use Rattle.trie.specs.declared.place.FollowMove.{FollowMove}
-use Rattle.trie.specs.declared.place.Followed.{Followed}
-use Rattle.trie.proofs.place.Held.{URA, named, w16, w32, w64, w8, Val, vint, vptr, SProp, ent, emp, via, fst∗, snd∗, exE, id⊢, Lft, Share, GName, Fml, ftrue, fat, flft, fobs, fbor, fullShare, Memory, Routine, Heap, Calls, Loops, WpFn, Tables, Atoms, sem, Fun, fact, givenOf, tables, tablesOf}
+use Rattle.trie.proofs.place.Held.{URA, named, w32, Val, vint, vptr, SProp, ent, emp, via, fst∗, snd∗, exE, id⊢, Lft, Share, GName, Fml, ftrue, fat, flft, fobs, fbor, fullShare, Memory, Routine, Heap, Calls, Loops, WpFn, Tables, Atoms, sem, Fun, fact, givenOf, tables, tablesOf}
 use Rattle.trie.proofs.place.Held.{Given, Item, ‵, raw, some, later, _⊛_, ⋆, _$_, _∵_, !, qed, by, move, keep, drop, use1, split, join, rewrite, fsplit, fsplit3, fjoin, fjoin3, feqI, group, suffices, frame, done, look, init, forget, stop, hop, fld, from, load, of-opd, and-then, no-more, assigns, land, returns, enter, alloc1, alloc0, params1, pass1, pass0, free1, free0, whole, sub, look-in, store-in}
 use Rattle.trie.proofs.place.Held.{Body, FmC, fmOf, WpFn-mono, owns, mem, Is, uint-makes, u16, u32, u64, u8, RefT, MutRef, ptr-vals, mut-tells, ShrSlice, slice-vals, shr-slice-tells, shr-slice-lawful, plain, only, owned, nothing, onEntry, Meets, tripleOf, Contract, Triple, calls-at, ensured, lasts, entered, cited, says, Stays, stay-ref, stay-none-slice, walkOf, goes-ref, goes-none-slice, Walks, ends-at, walked, walk-meets, yes}
 use Rattle.trie.proofs.place.Held.{value, Labels, Values, Words, copies, opens-place, closes-place, hears}

@@ -10,7 +10,6 @@ use Rattle.keymap.proofs.Laws.Paths.{isNode-iff}
 use Rattle.image.specs.AcceptTest.{imageTest}
 use Rattle.image.specs.Meaning.{lent, MapImage}
 use Rattle.image.proofs.Laws.Meaning.{tested-mapImage}
-use Rattle.trie.specs.declared.walk.Held.{Held}
 use Rattle.trie.specs.Answers.{saysValue}
 use Rattle.trie.specs.Walk.{heldValue}
 use Rattle.trie.proofs.Laws.Places.{onPlace-refused, onPlace-strange, onPlace-kept, value-is}

@@ -1,5 +1,5 @@
 -- `trie::prefix::glide` meets its contract. The invariant: the steps so far led from the first stand to this one, and all keys went along. Assumes nothing.
-use mathlib.Core.Path.{_≡_, sym, ap, subst, _∙_}
+use mathlib.Core.Path.{ap, subst}
 use Prim.Native.Nat.{_+_, _-_}
 use native.Mathlib.Omega.{arith}
 use lib.ListN.{length}

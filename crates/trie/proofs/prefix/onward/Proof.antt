@@ -9,7 +9,7 @@ use Rattle.keymap.specs.Image.{Image}
 use Rattle.keymap.specs.Decode.{imageMap}
 use Rattle.image.specs.Meaning.{lent}
 use Rattle.trie.specs.declared.walk.Children.{Children}
-use Rattle.trie.specs.Walk.{heldValue, kidsOf, standAt}
+use Rattle.trie.specs.Walk.{heldValue, standAt}
 use Rattle.trie.specs.Glide.{standPath, OnwardTo}
 use Rattle.trie.proofs.Laws.Glide.{onward-valued, onward-parted, onward-single}
 use Rattle.trie.proofs.prefix.onward.Statement.{statement}

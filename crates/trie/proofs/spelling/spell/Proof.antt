@@ -1,12 +1,10 @@
 -- `trie::spelling::spell` meets its contract. The invariant: the bytes behind those of the node where it stands are written. Assumes nothing.
-use mathlib.Core.Path.{_≡_, sym, ap, subst, _∙_}
-use Prim.Native.Nat.{_+_, _-_, _≤_}
+use mathlib.Core.Path.{sym, ap, subst, _∙_}
+use Prim.Native.Nat.{_-_, _≤_}
 use native.Mathlib.Omega.{arith}
-use lib.ListN.{length, set, getD}
+use lib.ListN.{length, set}
 use borrow.Author.Needs.{needs}
-use Rattle.keymap.specs.Key.{lastByte}
 use Rattle.keymap.specs.Image.{Image}
-use Rattle.keymap.specs.Paths.{pathOf}
 use Rattle.keymap.specs.Decode.{imageMap}
 use Rattle.image.specs.Meaning.{lent}
 use Rattle.trie.proofs.Laws.Image.{length-nodes}

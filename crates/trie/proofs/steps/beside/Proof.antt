@@ -1,5 +1,5 @@
 -- `trie::steps::beside` meets its contract: the bit read is the one behind the node's own (`sibling-there`, `sibling-none`). Assumes nothing.
-use mathlib.Core.Path.{_≡_, sym, ap, _∙_}
+use mathlib.Core.Path.{sym, ap, _∙_}
 use Prim.Native.Nat.{ℕ, _+_}
 use native.Mathlib.Omega.{arith}
 use borrow.Author.Needs.{needs}

@@ -1,7 +1,5 @@
 -- `trie::steps::parent_of` meets its contract: `louds` finds the parent of every node but the root (`parent-there`). Assumes nothing.
-use mathlib.Core.Path.{_≡_, sym, _∙_}
-use Prim.Native.Nat.{ℕ}
-use native.Mathlib.Omega.{arith}
+use mathlib.Core.Path.{sym, _∙_}
 use borrow.Author.Needs.{needs}
 use Rattle.image.specs.Meaning.{lent}
 use Rattle.trie.proofs.Laws.Steps.{parent-there, parent-always}

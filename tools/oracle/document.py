@@ -9,6 +9,9 @@ import sys
 MOST = 4096
 # how much memory there is for the labels and values of an image
 LENT = 4100
+# the largest number of 32 bits, and of a length
+LARGEST = (1 << 32) - 1
+LONGEST = (1 << 64) - 1
 
 
 class Draw:
@@ -377,7 +380,8 @@ class Book:
                 return ["none"]
             part = query[:lengths[0]]
             return [len(part), self.map[part], part.hex()]
-        self.asked("k", seen, query, answer)
+        letter, number = ("k", seen) if seen <= LARGEST else ("U", LONGEST - seen)
+        self.asked(letter, number, query, answer)
 
     # places
 
@@ -489,13 +493,26 @@ class Book:
             return [node, self.map[rest[0]]] + self.cursor_told()
         self.asked("S", 0, b"", answer, (7, self.bad_cursor))
 
+    def given_key(self):
+        kind, top, last = self.cursor
+        nodes = nodes_of(self.map)
+        return nodes[last - 1][len(nodes[top - 1]) if kind else 0:]
+
+    def has_no_key(self):
+        return self.bad_cursor() or not self.cursor[2]
+
     def cursor_key(self, room):
-        def key():
-            kind, top, last = self.cursor
-            nodes = nodes_of(self.map)
-            return nodes[last - 1][len(nodes[top - 1]) if kind else 0:]
-        self.asked("K", room, b"", lambda: [len(key()), key().hex()],
-                   (7, lambda: self.bad_cursor() or not self.cursor[2]), (8, lambda: room < len(key())))
+        self.asked("K", room, b"", lambda: [len(self.given_key()), self.given_key().hex()],
+                   (7, self.has_no_key), (8, lambda: room < len(self.given_key())))
+
+    def cursor_key_rooms(self):
+        """Into buffers one short, exact and one more; where there is no key, into none and into many bytes."""
+        if self.map is None or self.has_no_key():
+            rooms = (0, 9)
+        else:
+            rooms = (len(self.given_key()) - 1, len(self.given_key()), len(self.given_key()) + 1)
+        for room in rooms:
+            self.cursor_key(room)
 
 
 def shared(keys):
@@ -556,6 +573,7 @@ def lengths_of_pools(book):
     book.read_buffers(125, 5)
     for length in (0, 1, 4095, 4096, 4097):
         book.exact_long(length)
+    deepest_chain(book)
     # the same slices ended otherwise: 4,097 nodes, which no image has, then 4,095
     book.end_with((4097, [97, 353]), (4097, [0, 4097]), (129, [5]))
     book.accept()
@@ -574,6 +592,24 @@ def lengths_of_pools(book):
     book.push_long(4096)
     book.push_long(4095)
     book.use_count()
+
+
+def deepest_chain(book):
+    """The searches on the image of the one key of 4,096 bytes. A walk down or up all of it is slow, so there are few."""
+    book.is_prefix(b"a" * 50)
+    book.common_after(b"a" * 50, 0)
+    for place in (0, 4098, LARGEST, 4097):
+        book.stand_at(1)
+        book.resume(place)
+        book.value()
+    book.goto()
+    book.stand_at(4096)
+    book.goto()
+    book.prefix_into(4095)
+    book.prefix_into(4096)
+    book.cursor_at(0, 4096, 0)
+    book.step()
+    book.step()
 
 
 def capacity_of_three(book):
@@ -817,40 +853,109 @@ def damaged_images(book):
         book.accept()
 
 
+FRUIT = {b"a": 0, b"app": 1, b"apple": 2, b"better": 3, b"application": 4}
+SMALL = ({}, {b"ab": 7, b"b": 3}, dict(BASE), {b"a": 1, b"abc": 2, b"abd": 0})
+
+
+def every_place(book, nodes):
+    for place in (0, 1, nodes, nodes + 1, LARGEST):
+        book.resume(place)
+        book.stand_at(place)
+        book.value()
+        book.prefix()
+        book.peek(98)
+        book.goto()
+        book.stand_at(place)
+        book.query(98)
+        book.stand_at(place)
+        book.query_until(b"")
+        book.query_until(b"bx")
+        for room in range(4):
+            book.prefix_into(room)
+
+
+def every_cursor(book, nodes):
+    """Fresh, finished, given at each node of and outside its set, and at numbers that are no node's."""
+    numbers = list(range(nodes + 2)) + [LARGEST]
+    for kind in (0, 1):
+        book.cursor_at(kind, None, None)
+        book.step()
+        book.step()
+        book.cursor_key(9)
+        for top in numbers:
+            for last in numbers:
+                book.cursor_at(kind, top, last)
+                book.cursor_key_rooms()
+                book.step()
+                book.step()
+
+
 def places_and_cursors(book):
-    for entries in ({}, {b"ab": 7, b"b": 3}, dict(BASE), {b"a": 1, b"abc": 2, b"abd": 0}):
+    for entries in SMALL:
         book.title("places and cursors of any number on the image of %d keys" % len(entries))
         book.stand(*image_of(entries))
         nodes = len(image_of(entries)[0]) + 1
-        for place in (0, 1, nodes, nodes + 1, 4294967295):
-            book.resume(place)
-            book.stand_at(place)
-            book.value()
-            book.prefix()
-            book.peek(98)
-            book.goto()
-            book.stand_at(place)
-            book.query(98)
-            book.stand_at(place)
-            book.query_until(b"")
-            book.query_until(b"bx")
-            for room in range(4):
-                book.prefix_into(room)
+        every_place(book, nodes)
         for query in (b"", b"a", b"ab", b"b", b"x"):
             for room in range(4):
                 book.longest_prefix(query, room)
+        every_cursor(book, nodes)
+
+
+def places_elsewhere(book):
+    """A place or a cursor is numbers alone, so it is taken to another image, and back after what that image made of it."""
+    for entries in SMALL:
+        nodes = len(image_of(entries)[0]) + 1
+        for other in SMALL + (None,):
+            book.title("the places of %d keys used with another image" % len(entries))
+            for place in (nodes, (nodes + 1) // 2):
+                book.stand(*image_of(entries))
+                book.resume(place)
+                book.prefix()
+                # no map's image: the word of bits is not there
+                book.stand(*([], [], []) if other is None else image_of(other))
+                book.resume(place)
+                book.peek(97)
+                book.value()
+                book.prefix()
+                book.query(98)
+                book.query_until(b"cd")
+                book.goto()
+                book.prefix()
+                book.stand(*image_of(entries))
+                book.prefix()
+    for entries in SMALL:
         for kind in (0, 1):
-            book.cursor_at(kind, None, None)
-            book.step()
-            book.step()
-            book.cursor_key(9)
-            for top in (0, 1, 2, nodes, nodes + 1, 4294967295):
-                for last in (0, 1, 2, 3, nodes, nodes + 1, 4294967295):
-                    book.cursor_at(kind, top, last)
-                    book.cursor_key(1)
+            book.title("cursors that stepped on the image of %d keys, used with another image" % len(entries))
+            for steps in range(1, len(entries) + 2):
+                for other in SMALL:
+                    book.stand(*image_of(entries))
+                    book.cursor_at(kind, 1, 0)
+                    for _ in range(steps):
+                        book.step()
+                    book.stand(*image_of(other))
                     book.cursor_key(9)
                     book.step()
-                    book.step()
+
+
+def seen_lengths(book):
+    for entries in SMALL + (FRUIT,):
+        book.title("common prefixes of %d keys after any length" % len(entries))
+        book.stand(*image_of(entries))
+        for query in (b"", b"a", b"abc", b"applications", b"bcd"):
+            end = len(query)
+            for seen in sorted({0, 1, 2, max(end, 1) - 1, end, end + 1, 1 << 31, LARGEST, LONGEST - LARGEST, LONGEST - 1, LONGEST}):
+                book.common_after(query, seen)
+
+
+def values_set(book):
+    book.title("values set: the old one is answered, and that one entry is written")
+    book.stand(*image_of(dict(BASE)))
+    for key in (b"bcd", b"bd", b"", b"a", b"bc", b"bcde", b"x"):
+        for value in (0, LARGEST, 5, 5):
+            book.set_value(key, value)
+            book.exact(key)
+        book.show()
 
 
 def main():
@@ -861,6 +966,9 @@ def main():
     damaged_pools(book)
     damaged_images(book)
     places_and_cursors(book)
+    places_elsewhere(book)
+    seen_lengths(book)
+    values_set(book)
     for name, lines in zip(sys.argv[1:], (book.cases, book.answers)):
         with open(name, "w") as file:
             file.write("".join(line + "\n" for line in lines))

@@ -39,6 +39,11 @@ impl Draw {
         }
     }
 
+    /// Two to six bytes, some of them perhaps the same.
+    fn letters(&mut self) -> Vec<u8> {
+        (0..2 + self.below(5)).map(|_| self.below(256) as u8).collect()
+    }
+
     fn key(&mut self, alphabet: &[u8], longest: usize) -> Vec<u8> {
         let length = 1 + self.below(longest);
         (0..length).map(|_| *self.of(alphabet)).collect()
@@ -113,15 +118,15 @@ fn path_node(trie: &Trie<u8, u32>, path: &[u8]) -> u64 {
 
 /// A listing: where it starts, each entry by its node, value and key, and the end, which comes again at the next step.
 fn listing(trie: &Trie<u8, u32>, query: &[u8], given: Vec<(Vec<u8>, &u32)>, is_postfix: bool) -> String {
-    let mut line = String::new();
+    let mut line = format!(" {}", is_postfix as u8);
     if given.is_empty() {
         line.push_str(" finished");
     } else {
-        write!(line, " top {}", path_node(trie, query)).unwrap();
+        write!(line, " top {} last 0", path_node(trie, query)).unwrap();
     }
     for (key, value) in given {
         let whole = if is_postfix { [query, &key[..]].concat() } else { key.clone() };
-        write!(line, " | {} {value}{}", path_node(trie, &whole), spelled(&key)).unwrap();
+        write!(line, " | {} {value} {}{}", path_node(trie, &whole), key.len(), spelled(&key)).unwrap();
     }
     line.push_str(" | end | end");
     line
@@ -339,6 +344,11 @@ fn siblings(head: &[u8], labels: impl Iterator<Item = u8>) -> Entries {
     labels.map(|label| ([head, &[label]].concat(), label as u32)).collect()
 }
 
+fn words_of_two(labels: &[u8]) -> Entries {
+    let pairs = labels.iter().flat_map(|first| labels.iter().map(|second| vec![*first, *second]));
+    pairs.map(|key| (key.clone(), key[0] as u32 * 256 + key[1] as u32)).collect()
+}
+
 fn random(draw: &mut Draw, alphabet: &[u8], longest: usize, count: usize) -> Entries {
     (0..count).map(|_| (draw.key(alphabet, longest), draw.value())).collect()
 }
@@ -408,6 +418,16 @@ fn catalogues(draw: &mut Draw) -> Vec<(String, Entries)> {
     let bytes: Vec<u8> = (0..=255).collect();
     for (longest, count) in [(1, 40), (2, 30), (3, 60), (8, 12), (20, 6), (40, 3)] {
         all.push((format!("{count} keys of at most {longest} over all bytes"), random(draw, &bytes, longest, count)));
+    }
+    all.push(("wide: all words of two over 12 labels".into(), words_of_two(&[0, 1, 31, 32, 97, 98, 126, 127, 128, 129, 254, 255])));
+    all.push(("deep: every leading part of 48 bytes".into(), tower(&(0..48).map(|i| 255 - 5 * i).collect::<Vec<u8>>(), 1)));
+    all.push(("deep: 10 keys of at most 90 over two bytes".into(), random(draw, b"\x00\xff", 90, 10)));
+    all.push(("wide and deep: 80 keys of at most 7 over four bytes".into(), random(draw, b"\x00\x61\x80\xff", 7, 80)));
+    for turn in 1..=30 {
+        let alphabet = draw.letters();
+        let (longest, count) = (2 + draw.below(11), 2 + draw.below(23));
+        let name = format!("draw {turn}: {count} keys of at most {longest} over the bytes {}", hex(&alphabet));
+        all.push((name, random(draw, &alphabet, longest, count)));
     }
     all
 }

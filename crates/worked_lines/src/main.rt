@@ -1,16 +1,84 @@
 // Replays two lists of cases and writes the answer to each on a line: `rust_cases`, answered by the Rust, and `document_cases`, answered by the scope document.
 // tools/oracle/README.md has the letters. The memory that the calls are lent is main's own.
+mod cursors;
 mod images;
 mod memory;
+mod places;
 mod pools;
 mod printing;
+mod searches;
 mod state;
 mod text;
 
+use cursors::keep_cursor;
+use cursors::kept_cursor;
+use memory::of_labels;
+use memory::of_values;
+use memory::of_words;
 use printing::end_line;
+use state::LABELS;
+use state::PLACE;
+use state::VALUES;
+use state::WORDS;
+use state::keep;
+use state::kept;
 
-// The longest bytes of a case.
+// The longest list, and the longest bytes of a case.
+const LIST_BYTES: usize = 327680;
+
 const CASE_BYTES: usize = 1024;
+
+// The cases of the searches, over as much of the memory as is lent.
+fn search(
+    letter: u8,
+    number: u32,
+    bytes: &[u8],
+    labels: &[u16],
+    values: &mut [u32],
+    words: &[u64],
+    state: &mut [u32],
+) {
+    let a = of_labels(labels, kept(state, LABELS) as usize);
+    let b = of_values(values, kept(state, VALUES) as usize);
+    let c = of_words(words, kept(state, WORDS) as usize);
+    if letter == b's' {
+        searches::set_value(&labels[..a], &mut values[..b], &words[..c], bytes, number);
+    } else {
+        read(
+            letter,
+            number,
+            bytes,
+            &labels[..a],
+            &values[..b],
+            &words[..c],
+            state,
+        );
+    }
+}
+
+// The cases that only read the image.
+fn read(
+    letter: u8,
+    number: u32,
+    bytes: &[u8],
+    labels: &[u16],
+    values: &[u32],
+    words: &[u64],
+    state: &mut [u32],
+) {
+    searches::answer(letter, number, bytes, labels, values, words);
+    let cursor = kept_cursor(state);
+    keep_cursor(
+        state,
+        cursors::answer(letter, number, bytes, labels, values, words, cursor),
+    );
+    let here = kept(state, PLACE);
+    keep(
+        state,
+        PLACE,
+        places::answer(letter, number, bytes, labels, values, words, here),
+    );
+}
 
 fn answer(
     letter: u8,
@@ -36,6 +104,7 @@ fn answer(
         scratch,
         state,
     );
+    search(letter, number, bytes, labels, values, words, state);
     end_line();
 }
 
@@ -119,7 +188,7 @@ fn replay_file(
 }
 
 fn main() {
-    let mut room = [0u8; 262144];
+    let mut room = [0u8; LIST_BYTES];
     let mut pool = [0u32; 20500];
     let mut labels = [0u16; 4100];
     let mut values = [0u32; 4100];

@@ -14,8 +14,8 @@
 # The crate louds-rs, which it needs, is tools/oracle/louds_rs.rs: a stand-in that we wrote from the scope document's rule.
 # tools/oracle/main.rs makes up the catalogues and the queries, asks the Rust and writes case and answer down.
 #
-# Section 2, data/document_cases, rests on the scope document alone: tools/oracle/document.py has a plain model of pools and images,
-# for what the Rust does not have: damaged pools and images, capacity, numbered refusals.
+# Section 2, data/document_cases, rests on the scope document alone: tools/oracle/document.py has a plain model of pools, images and searches,
+# for what the Rust does not have: damaged pools and images, capacity, numbered refusals, places and cursors of any number.
 #
 # A case is a line: a letter, a space, a number in 8 hexadecimal digits, and, where there are bytes, a space and their hexadecimal digits.
 # A line that begins with # is written out as it stands. tools/oracle/README.md has the letters and how their answers are written.

@@ -269,22 +269,20 @@ class Book:
 
     def build(self, lengths=None):
         """Into buffers that are as long as can be, or of these lengths: labels, values, words, scratch."""
-        letter, data = "b", b""
-        if lengths:
-            letter, data = "D", b"".join(length.to_bytes(2, "big") for length in lengths)
+        data = b"".join(length.to_bytes(2, "big") for length in lengths or ())
         labels, values, words, scratch = lengths or (LENT, LENT, 130, MOST)
         if self.refusal():
-            self.case(letter, 0, data, "refused", self.refusal())
+            self.case("b", 0, data, "refused", self.refusal())
             return
         n = self.pool[0]
         if labels < n or values < n or words < (2 * n + 3 + 63) // 64 or scratch < n:
-            self.case(letter, 0, data, "refused", 5)
+            self.case("b", 0, data, "refused", 5)
             return
         self.image(pool_map(self.lent()))
         assert self.lengths[0] == n
         paths = record_paths(self.lent())
         self.scratch[:n] = sorted(range(1, n + 1), key=lambda c: (len(paths[c]), paths[c]))
-        self.case(letter, 0, data, n)
+        self.case("b", 0, data, n)
 
     def image(self, entries):
         labels, values, words = image_of(entries)
@@ -605,7 +603,6 @@ def deepest_chain(book):
     book.goto()
     book.stand_at(4096)
     book.goto()
-    book.prefix_into(4095)
     book.prefix_into(4096)
     book.cursor_at(0, 4096, 0)
     book.step()

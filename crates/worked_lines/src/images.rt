@@ -44,16 +44,8 @@ fn lend(state: &mut [u32], n: u32) {
     keep(state, WORDS, words_for(n));
 }
 
-fn build(
-    pool: &[u32],
-    labels: &mut [u16],
-    values: &mut [u32],
-    words: &mut [u64],
-    scratch: &mut [u32],
-    state: &mut [u32],
-) {
-    let p = of_values(pool, kept(state, POOL) as usize);
-    match image::build(&pool[..p], labels, values, words, scratch) {
+fn built(answer: Built, state: &mut [u32]) {
+    match answer {
         Built::Nodes(n) => {
             number(n as u64);
             lend(state, n);
@@ -64,16 +56,16 @@ fn build(
     }
 }
 
-// The number that two bytes spell, from an even index on.
+// The number that two bytes spell, from an even index on; with no bytes there, the most.
 fn length_at(bytes: &[u8], at: usize) -> usize {
-    if bytes.len() < at {
+    if bytes.len() <= at {
         return ALL;
     }
     two_bytes(&bytes[at..]) as usize
 }
 
 // Into as much of each buffer as the bytes say.
-fn build_into(
+fn build(
     bytes: &[u8],
     pool: &[u32],
     labels: &mut [u16],
@@ -86,14 +78,15 @@ fn build_into(
     let b = of_values(values, length_at(bytes, 2));
     let c = of_words(words, length_at(bytes, 4));
     let d = of_values(scratch, length_at(bytes, 6));
-    build(
-        pool,
+    let p = of_values(pool, kept(state, POOL) as usize);
+    let answer = image::build(
+        &pool[..p],
         &mut labels[..a],
         &mut values[..b],
         &mut words[..c],
         &mut scratch[..d],
-        state,
     );
+    built(answer, state);
 }
 
 fn show(labels: &[u16], values: &[u32], words: &[u64]) {
@@ -124,15 +117,12 @@ fn accept(labels: &[u16], values: &[u32], words: &[u64]) {
     }
 }
 
-// The image that is lent.
-fn lent(letter: u8, labels: &[u16], values: &[u32], words: &[u64], state: &[u32]) {
-    let a = of_labels(labels, kept(state, LABELS) as usize);
-    let b = of_values(values, kept(state, VALUES) as usize);
-    let c = of_words(words, kept(state, WORDS) as usize);
-    if letter == b'i' {
-        show(&labels[..a], &values[..b], &words[..c]);
-    } else {
-        accept(&labels[..a], &values[..b], &words[..c]);
+// The cases that read the image that is lent.
+pub fn answer_lent(letter: u8, labels: &[u16], values: &[u32], words: &[u64]) {
+    match letter {
+        b'i' => show(labels, values, words),
+        b'A' => accept(labels, values, words),
+        _ => (),
     }
 }
 
@@ -162,7 +152,25 @@ fn lend_words(words: &mut [u64], count: u32, bytes: &[u8], state: &mut [u32]) {
     number(count as u64);
 }
 
-// The answer to a case that is an image's; no other writes anything.
+// What is lent as an image from then on.
+fn lend_part(
+    letter: u8,
+    n: u32,
+    bytes: &[u8],
+    labels: &mut [u16],
+    values: &mut [u32],
+    words: &mut [u64],
+    state: &mut [u32],
+) {
+    match letter {
+        b'L' => lend_labels(labels, n, bytes, state),
+        b'V' => lend_values(values, n, bytes, state),
+        b'B' => lend_words(words, n, bytes, state),
+        _ => (),
+    }
+}
+
+// The answer to a case of the memory of images; no other writes anything.
 pub fn answer(
     letter: u8,
     n: u32,
@@ -175,13 +183,8 @@ pub fn answer(
     state: &mut [u32],
 ) {
     match letter {
-        b'b' => build(pool, labels, values, words, scratch, state),
-        b'D' => build_into(bytes, pool, labels, values, words, scratch, state),
-        b'i' | b'A' => lent(letter, labels, values, words, state),
+        b'b' => build(bytes, pool, labels, values, words, scratch, state),
         b'h' => read(n, byte_at(bytes, 0), labels, values, words, scratch),
-        b'L' => lend_labels(labels, n, bytes, state),
-        b'V' => lend_values(values, n, bytes, state),
-        b'B' => lend_words(words, n, bytes, state),
-        _ => (),
+        _ => lend_part(letter, n, bytes, labels, values, words, state),
     }
 }

@@ -28,36 +28,8 @@ const LIST_BYTES: usize = 327680;
 
 const CASE_BYTES: usize = 1024;
 
-// The cases of the searches, over as much of the memory as is lent.
-fn search(
-    letter: u8,
-    number: u32,
-    bytes: &[u8],
-    labels: &[u16],
-    values: &mut [u32],
-    words: &[u64],
-    state: &mut [u32],
-) {
-    let a = of_labels(labels, kept(state, LABELS) as usize);
-    let b = of_values(values, kept(state, VALUES) as usize);
-    let c = of_words(words, kept(state, WORDS) as usize);
-    if letter == b's' {
-        searches::set_value(&labels[..a], &mut values[..b], &words[..c], bytes, number);
-    } else {
-        read(
-            letter,
-            number,
-            bytes,
-            &labels[..a],
-            &values[..b],
-            &words[..c],
-            state,
-        );
-    }
-}
-
-// The cases that only read the image.
-fn read(
+// The cases that read the image that is lent.
+fn read_lent(
     letter: u8,
     number: u32,
     bytes: &[u8],
@@ -66,6 +38,7 @@ fn read(
     words: &[u64],
     state: &mut [u32],
 ) {
+    images::answer_lent(letter, labels, values, words);
     searches::answer(letter, number, bytes, labels, values, words);
     let cursor = kept_cursor(state);
     keep_cursor(
@@ -78,6 +51,66 @@ fn read(
         PLACE,
         places::answer(letter, number, bytes, labels, values, words, here),
     );
+}
+
+// The same, over as much of the memory as is lent.
+fn read(
+    letter: u8,
+    number: u32,
+    bytes: &[u8],
+    labels: &[u16],
+    values: &[u32],
+    words: &[u64],
+    state: &mut [u32],
+) {
+    let a = of_labels(labels, kept(state, LABELS) as usize);
+    let b = of_values(values, kept(state, VALUES) as usize);
+    let c = of_words(words, kept(state, WORDS) as usize);
+    read_lent(
+        letter,
+        number,
+        bytes,
+        &labels[..a],
+        &values[..b],
+        &words[..c],
+        state,
+    );
+}
+
+// The case that sets a value, over as much of the memory as is lent.
+fn set_value(
+    letter: u8,
+    number: u32,
+    bytes: &[u8],
+    labels: &[u16],
+    values: &mut [u32],
+    words: &[u64],
+    state: &[u32],
+) {
+    let a = of_labels(labels, kept(state, LABELS) as usize);
+    let b = of_values(values, kept(state, VALUES) as usize);
+    let c = of_words(words, kept(state, WORDS) as usize);
+    searches::set_value(
+        letter,
+        number,
+        bytes,
+        &labels[..a],
+        &mut values[..b],
+        &words[..c],
+    );
+}
+
+fn search(
+    letter: u8,
+    number: u32,
+    bytes: &[u8],
+    labels: &[u16],
+    values: &mut [u32],
+    words: &[u64],
+    state: &mut [u32],
+) {
+    set_value(letter, number, bytes, labels, values, words, state);
+    read(letter, number, bytes, labels, values, words, state);
 }
 
 fn answer(

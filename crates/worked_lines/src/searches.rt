@@ -122,6 +122,16 @@ pub fn answer(letter: u8, n: u32, query: &[u8], labels: &[u16], values: &[u32], 
     }
 }
 
-pub fn set_value(labels: &[u16], values: &mut [u32], words: &[u64], query: &[u8], value: u32) {
-    looked(trie::set_value(labels, values, words, query, value));
+// The answer to the case that sets a value; no other writes anything.
+pub fn set_value(
+    letter: u8,
+    value: u32,
+    query: &[u8],
+    labels: &[u16],
+    values: &mut [u32],
+    words: &[u64],
+) {
+    if letter == b's' {
+        looked(trie::set_value(labels, values, words, query, value));
+    }
 }

@@ -6,6 +6,9 @@
 --                                                     and every answer is told by that map and the capacity
 --     reset-run-within                                that map is a catalogue with no more distinct prefixes than the capacity
 --     reset-run-count                                 and its use count is the number of that map's distinct nonempty prefixes
+--     empty-catalogue                                 the empty map is a catalogue
+--     prefixes-insertAll                              inserts take no prefix away
+--     fits-says                                       a nonempty key for which there is room is accepted
 --     refill-says, refill-map                         a sound pool counts as reset and then given the keys that it holds: all are accepted, and leave its map
 -- Assumes nothing.
 use Prim.Native.Nat.{ℕ, _+_, _≤_, _<_}
@@ -104,7 +107,7 @@ run-map (c ∷ cs) p s l =
 
 -- ---- what the map of a history is
 
-empty-catalogue : Catalogue []
+pub empty-catalogue : Catalogue []
 empty-catalogue = record { rising = tt; proper = tt }
 
 empty-prefixes : length (prefixes []) ≡ 0
@@ -158,7 +161,7 @@ module _ (p : Pool) (h : recordWords ≤ length p) (cs : List Call) (lent : AllL
   reset-run-within = run-within (capacity p) cs [] empty-catalogue (omega (arith, empty-prefixes)) lent
 
 -- ---- a pool that was not reset here
-prefixes-insertAll : (es m : Map) → Rising m → length (prefixes m) ≤ length (prefixes (insertAll es m))
+pub prefixes-insertAll : (es m : Map) → Rising m → length (prefixes m) ≤ length (prefixes (insertAll es m))
 unfolding insertAll
 prefixes-insertAll [] m r = omega arith
 prefixes-insertAll (e ∷ es) m r =
@@ -174,7 +177,7 @@ module _ (most : ℕ) (m : Map) (k : Key) (v : ℕ) (nonempty : ¬ (k ≡ [])) (
   not-empty [] n = absurd (n refl)
   not-empty (b ∷ bs) n = ne-eqb (length (b ∷ bs)) 0 (λ e. omega arith)
 
-  fits-says : mapSays most m (Call.push k v) ≡ 0 ∷ []
+  pub fits-says : mapSays most m (Call.push k v) ≡ 0 ∷ []
   fits-says = rw (not-empty k nonempty, le-leb _ _ few)
 
   fits-after : mapAfter most m (Call.push k v) ≡ insert k v m

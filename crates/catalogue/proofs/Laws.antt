@@ -1,0 +1,5 @@
+-- The laws of the definitions, and what the program writes. Assumes nothing.
+pub mod Filling
+pub mod Building
+pub mod Listing
+pub mod Program

@@ -1,0 +1,194 @@
+-- Laws of lines pushed in turn. An accepted line is an insert of its entry, so that lines accepted whole leave the map of their entries.
+--
+--     entry-said, entry-none           the entry of a line, by what `tab_line` answered
+--     fill-end, fill-goes, fill-stops  the equations of `fillFrom` and `leftFrom`, by what one line says
+--     fill-whole                       the lines of a whole text, and `file-long`, `file-short`: a text by its length
+--     fill-means                       lines accepted whole leave a sound pool of the same length that holds the inserts of their entries
+--     fill-accepts                     lines that are all entries of nonempty keys, for which there is room, are accepted whole
+--     lines-bytes, key-bytes           the lines of bytes are of bytes, and so are their keys
+-- Assumes nothing.
+use mathlib.Core.Path.{_≡_, refl, sym, ap, _∙_}
+use Prim.Native.Nat.{ℕ, suc, _≤_, _<_}
+use native.Mathlib.Omega.{arith}
+use mathlib.Core.Bool.{Bool, true, false}
+use mathlib.Core.List.{List, [], _∷_, _++_}
+use mathlib.Core.Option.{Option, none, some}
+use lib.ListN.{length, take, drop}
+use lib.Dec.{eqb}
+use borrow.Author.Tests.{lt-ltb, le-ltb, le-leb, eq-eqb, ne-eqb, eqb-false}
+use Rattle.keymap.specs.Limits.{byteLimit}
+use Rattle.keymap.specs.Key.{Key, Bytes}
+use Rattle.keymap.specs.Map.{Entry, Map, Rising, insert, insertAll}
+use Rattle.keymap.specs.Prefixes.{prefixes}
+use Rattle.keymap.specs.Refusals.{Refusal, refusalNumber}
+use Rattle.keymap.proofs.Laws.Begins.{bytes-prefix, prefix-leading}
+use Rattle.keymap.proofs.Laws.Map.{insert-rising}
+use Rattle.keymap.proofs.Laws.Prefixes.{prefixes-insert}
+use Rattle.records.specs.Words.{Pool, capacity}
+use Rattle.records.specs.Sound.{Sound}
+use Rattle.records.specs.Meaning.{poolMap}
+use Rattle.records.proofs.Laws.Meaning.{map-rising}
+use Rattle.pool.specs.Answers.{accepted}
+use Rattle.pool.specs.Reset.{resetPool}
+use Rattle.pool.specs.Push.{pushSays, pushPool}
+use Rattle.pool.specs.History.{Call}
+use Rattle.pool.proofs.Laws.Push.{push-keeps, length-push}
+use Rattle.pool.proofs.Laws.Meaning.{push-means-insert}
+use Rattle.pool.proofs.Laws.History.{call-says}
+use Rattle.lines.specs.Bytes.{tab, lineFeed, stretch}
+use Rattle.lines.specs.TabLine.{keyPart, tabEntry, entrySays, entryKey, tabLineSays, tabLineKey}
+use Rattle.lines.specs.Text.{inFirst, linesOf, entryLines}
+use Rattle.lines.proofs.Laws.TabLine.{tabEntry-some}
+use Rattle.catalogue.specs.Filling.{fileLimit, lineSays, linePool, fillFrom, leftFrom, fillSays, fillPool, fileSays, filePool, withEntry, entriesIn, AllEntries}
+
+-- ---- one line
+
+pub entry-said : (line : List ℕ) (n v : ℕ) → tabLineSays line ≡ 0 ∷ n ∷ v ∷ [] → tabEntry line ≡ some (tabLineKey line, v)
+unfolding tabLineSays tabLineKey
+entry-said line n v = go (tabEntry line)
+  where
+    go : (o : Option Entry) → entrySays o ≡ 0 ∷ n ∷ v ∷ [] → o ≡ some (entryKey o, v)
+    go none h = absurd (let z : _≡_ {A = ℕ} 0 1 = cc in omega arith)
+    go (some e) h = let same : e .1 ≡ v = cc in λ i. some (e .0, same i)
+
+pub entry-none : (line : List ℕ) → tabLineSays line ≡ refusalNumber Refusal.BadLine ∷ [] → tabEntry line ≡ none
+unfolding tabLineSays
+entry-none line = go (tabEntry line)
+  where
+    go : (o : Option Entry) → entrySays o ≡ refusalNumber Refusal.BadLine ∷ [] → o ≡ none
+    go none h = refl
+    go (some e) h = absurd (let z : _≡_ {A = ℕ} 0 1 = cc in omega arith)
+
+-- a refused line leaves the pool as it was
+pub line-refused : (p : Pool) (o : Option Entry) → accepted (lineSays p o) ≡ false → linePool p o ≡ p
+unfolding pushPool
+line-refused p none h = refl
+line-refused p (some e) h = rw h
+
+-- ---- lines in turn
+
+pub fill-end : (n : ℕ) (p : Pool) (ls : List (List ℕ)) → ls ≡ [] → (0 ∷ [] ≡ fillFrom n p ls) × (p ≡ leftFrom p ls)
+unfolding fillFrom leftFrom
+fill-end n p ls e = rw e (refl, refl)
+
+module _ (n : ℕ) (p : Pool) (l : List ℕ) (ls : List (List ℕ)) (a : ℕ) (said : a ∷ [] ≡ lineSays p (tabEntry l)) where
+  pub fill-goes : a ≡ 0 → (fillFrom n p (l ∷ ls) ≡ fillFrom (suc n) (linePool p (tabEntry l)) ls) × (leftFrom p (l ∷ ls) ≡ leftFrom (linePool p (tabEntry l)) ls)
+  unfolding fillFrom leftFrom
+  fill-goes z = let t : accepted (lineSays p (tabEntry l)) ≡ true = ap accepted (sym said) ∙ eq-eqb a 0 z in (rw t, rw t)
+
+  pub fill-stops : ¬ (a ≡ 0) → (a ∷ n ∷ [] ≡ fillFrom n p (l ∷ ls)) × (linePool p (tabEntry l) ≡ leftFrom p (l ∷ ls))
+  unfolding fillFrom leftFrom
+  fill-stops d =
+      let f : accepted (lineSays p (tabEntry l)) ≡ false = ap accepted (sym said) ∙ ne-eqb a 0 d in
+      (rw f (ap (λ (s : List ℕ). s ++ (n ∷ [])) said), rw f (line-refused p (tabEntry l) f))
+
+-- the lines of a whole text
+pub fill-whole : (p : Pool) (text : List ℕ)
+    → (fillFrom 1 p (linesOf (drop 0 text)) ≡ fillSays p (entryLines text)) × (leftFrom p (linesOf (drop 0 text)) ≡ fillPool p (entryLines text))
+unfolding fillSays fillPool entryLines
+fill-whole p text = (refl, refl)
+
+pub file-long : (p : Pool) (text : List ℕ) → fileLimit < length text → ([] ≡ fileSays p text) × (p ≡ filePool p text)
+unfolding fileSays filePool
+file-long p text h = (rw (lt-ltb _ _ h), rw (lt-ltb _ _ h))
+
+pub file-short : (p : Pool) (text : List ℕ) → length text ≤ fileLimit
+    → (fillSays (resetPool p) (entryLines text) ≡ fileSays p text) × (fillPool (resetPool p) (entryLines text) ≡ filePool p text)
+unfolding fileSays filePool
+file-short p text h = (rw (le-ltb _ _ h), rw (le-ltb _ _ h))
+
+-- ---- bytes
+
+abbrev pub AllBytes : List (List ℕ) → Type 0
+AllBytes [] = Unit {0}
+AllBytes (l ∷ ls) = Bytes l × AllBytes ls
+
+inFirst-bytes : (b : ℕ) (ls : List (List ℕ)) → b < byteLimit → AllBytes ls → AllBytes (inFirst b ls)
+inFirst-bytes b [] h a = ((h, tt), tt)
+inFirst-bytes b (l ∷ ls) h a = ((h, a .0), a .1)
+
+linesOf-bytes : (t : List ℕ) → Bytes t → AllBytes (linesOf t)
+unfolding linesOf
+linesOf-bytes [] h = tt
+linesOf-bytes (b ∷ t) h = go (eqb b lineFeed) refl (linesOf-bytes t (h .1))
+  where
+    go : (c : Bool) → eqb b lineFeed ≡ c → AllBytes (linesOf t) → AllBytes (linesOf (b ∷ t))
+    go true e ih = rw e (tt, ih)
+    go false e ih = rw e (inFirst-bytes b (linesOf t) (h .0) ih)
+
+pub lines-bytes : (text : List ℕ) → Bytes text → AllBytes (entryLines text)
+unfolding entryLines
+lines-bytes text h = linesOf-bytes text h
+
+pub key-bytes : (l : List ℕ) (e : Entry) → tabEntry l ≡ some e → Bytes l → Bytes (e .0)
+unfolding keyPart
+key-bytes l e h b = rw (tabEntry-some l e h .key) (bytes-prefix (take (stretch tab l) l) l (prefix-leading (stretch tab l) l) b)
+
+-- ---- what lines accepted whole leave
+
+pub record Filled (p : Pool) (ls : List (List ℕ)) : Type 0 where
+  pub sound : Sound (leftFrom p ls)
+  pub size : length (leftFrom p ls) ≡ length p
+  pub holds : poolMap (leftFrom p ls) ≡ insertAll (entriesIn ls) (poolMap p)
+
+-- a refusal is told from "all are pushed": its number is not 0, and lines are numbered from 1
+told : (s : List ℕ) (n : ℕ) → accepted s ≡ false → ¬ (s ++ (suc n ∷ []) ≡ 0 ∷ [])
+told [] n f h = let z : suc n ≡ 0 = cc in omega arith
+told (a ∷ s) n f h = let z : a ≡ 0 = cc in eqb-false a 0 f z
+
+pub fill-means : (ls : List (List ℕ)) (n : ℕ) (p : Pool) → Sound p → AllBytes ls → fillFrom (suc n) p ls ≡ 0 ∷ [] → Filled p ls
+unfolding fillFrom leftFrom entriesIn insertAll
+fill-means [] n p s b h = record { sound = s; size = refl; holds = refl }
+fill-means (l ∷ ls) n p s b h = go (tabEntry l) refl (λ q t. fill-means ls (suc n) q t (b .1))
+  where
+    inserted : (e : Entry) → tabEntry l ≡ some e → accepted (pushSays p (e .0)) ≡ true → Filled (pushPool p (e .0) (e .1)) ls → Filled p (l ∷ ls)
+    inserted e f a r =
+        let kb : Bytes (e .0) = key-bytes l e f (b .0) in
+        record {
+          sound = rw (f, a) (r .sound);
+          size = rw (f, a) (r .size ∙ length-push p (e .0) (e .1) kb);
+          holds = rw (f, a) (r .holds ∙ ap (insertAll (entriesIn ls)) (push-means-insert p (e .0) (e .1) kb a));
+        }
+
+    pushed : (e : Entry) → tabEntry l ≡ some e → ((q : Pool) → Sound q → fillFrom (suc (suc n)) q ls ≡ 0 ∷ [] → Filled q ls)
+        → (t : Bool) → accepted (pushSays p (e .0)) ≡ t → Filled p (l ∷ ls)
+    pushed e f ih true a = inserted e f a (ih (pushPool p (e .0) (e .1)) (push-keeps p (e .0) (e .1) (key-bytes l e f (b .0)) s) (rw (f, a) at h))
+    pushed e f ih false a = absurd (told (pushSays p (e .0)) n a (rw (f, a) at h))
+
+    go : (o : Option Entry) → tabEntry l ≡ o → ((q : Pool) → Sound q → fillFrom (suc (suc n)) q ls ≡ 0 ∷ [] → Filled q ls) → Filled p (l ∷ ls)
+    go none f ih = absurd (let k : 9 ∷ suc n ∷ [] ≡ 0 ∷ [] = rw f at h in let z : _≡_ {A = ℕ} 9 0 = cc in omega arith)
+    go (some e) f ih = pushed e f ih (accepted (pushSays p (e .0))) refl
+
+-- ---- and when they are accepted whole
+
+-- inserts take no prefix away
+prefixes-grow : (es m : Map) → Rising m → length (prefixes m) ≤ length (prefixes (insertAll es m))
+unfolding insertAll
+prefixes-grow [] m r = omega arith
+prefixes-grow (e ∷ es) m r =
+    omega (arith, prefixes-insert (e .0) (e .1) m r, prefixes-grow es (insert (e .0) (e .1) m) (insert-rising (e .0) (e .1) m r))
+
+not-empty : (k : Key) → ¬ (k ≡ []) → eqb (length k) 0 ≡ false
+not-empty [] n = absurd (n refl)
+not-empty (b ∷ k) n = ne-eqb (length (b ∷ k)) 0 (λ e. omega arith)
+
+-- a key for which there is room is accepted
+push-fits : (p : Pool) → Sound p → (k : Key) (v : ℕ) → ¬ (k ≡ []) → length (prefixes (insert k v (poolMap p))) ≤ capacity p → pushSays p k ≡ 0 ∷ []
+push-fits p s k v d few = call-says p s (Call.push k v) ∙ rw (not-empty k d, le-leb _ _ few)
+
+pub fill-accepts : (ls : List (List ℕ)) (n : ℕ) (p : Pool) → Sound p → AllBytes ls → AllEntries ls
+    → length (prefixes (insertAll (entriesIn ls) (poolMap p))) ≤ capacity p → fillFrom n p ls ≡ 0 ∷ []
+unfolding fillFrom entriesIn insertAll
+fill-accepts [] n p s b a few = refl
+fill-accepts (l ∷ ls) n p s b ((e, f, d), a) few =
+    let kb : Bytes (e .0) = key-bytes l e f (b .0) in
+    let m : Map = insert (e .0) (e .1) (poolMap p) in
+    let whole : length (prefixes (insertAll (entriesIn ls) m)) ≤ capacity p = rw f at few in
+    let room : length (prefixes m) ≤ capacity p = omega (arith, prefixes-grow (entriesIn ls) m (insert-rising (e .0) (e .1) (poolMap p) (map-rising p s))) in
+    let says : pushSays p (e .0) ≡ 0 ∷ [] = push-fits p s (e .0) (e .1) d room in
+    let yes-said : accepted (pushSays p (e .0)) ≡ true = ap accepted says in
+    let q : Pool = pushPool p (e .0) (e .1) in
+    let holds : poolMap q ≡ m = push-means-insert p (e .0) (e .1) kb yes-said in
+    let same : length q ≡ length p = length-push p (e .0) (e .1) kb in
+    rw (f, yes-said)
+    (fill-accepts ls (suc n) q (push-keeps p (e .0) (e .1) kb s) (b .1) a (rw (holds, same) whole))

@@ -1,0 +1,149 @@
+-- What the program writes. A text of lines that are all entries of nonempty keys, with room for their prefixes, is pushed whole, its map is built whole,
+-- and the lines written, one after the other, are the text of that map: each key once, in byte order, with its last value.
+--
+--     program-writes    that, for every call that the program makes, from a pool and buffers of its lengths
+-- Assumes nothing.
+use mathlib.Core.Path.{_≡_, refl, sym, ap, subst, _∙_}
+use mathlib.Core.Logic.{inr}
+use Prim.Native.Nat.{ℕ, _+_, _*_, _/_, _≤_, _<_}
+use native.Mathlib.Omega.{arith}
+use mathlib.Core.Bool.{true}
+use mathlib.Core.List.{List, [], _∷_}
+use mathlib.Core.Option.{some}
+use lib.ListN.{length, take}
+use borrow.Author.Tests.{le-leb}
+use Rattle.keymap.specs.Limits.{valueLimit, mostRecords}
+use Rattle.keymap.specs.Members.{In}
+use Rattle.keymap.specs.Key.{Key, Bytes}
+use Rattle.keymap.specs.Map.{Entry, Map, Catalogue, insert, insertAll}
+use Rattle.keymap.specs.Prefixes.{prefixes}
+use Rattle.keymap.specs.Image.{Image, image}
+use Rattle.keymap.specs.Decode.{imageMap}
+use Rattle.keymap.specs.Paths.{nodes, pathOf, nodeOf}
+use Rattle.keymap.proofs.Laws.Begins.{prefix-refl}
+use Rattle.keymap.proofs.Laws.Map.{insert-catalogue, proper-in}
+use Rattle.keymap.proofs.Laws.Image.{imageMap-image}
+use Rattle.keymap.proofs.Laws.Paths.{nodes-iff, nodeOf-node, pathOf-nodeOf}
+use Rattle.records.specs.Words.{Pool, recordWords, capacity}
+use Rattle.records.specs.Sound.{Sound}
+use Rattle.records.specs.Meaning.{poolMap}
+use Rattle.pool.specs.Reset.{resetPool}
+use Rattle.pool.proofs.Laws.Reset.{reset-sound, length-reset}
+use Rattle.pool.proofs.Laws.Meaning.{reset-means-empty}
+use Rattle.image.specs.Build.{buffersFit, fitSays, buildSays, buildLabels, buildValues, buildWords}
+use Rattle.image.specs.Meaning.{lent, MapImage}
+use Rattle.image.proofs.Laws.History.{build-says}
+use Rattle.lines.specs.TabLine.{tabEntry}
+use Rattle.lines.specs.Text.{entryLines}
+use Rattle.lines.specs.Writing.{tabText, mapText}
+use Rattle.lines.proofs.Laws.Writing.{tabEntry-plain, length-tabText-most}
+use Rattle.trie.specs.declared.Cursor.{Cursor}
+use Rattle.trie.proofs.Laws.Spelling.{path-short}
+use Rattle.catalogue.specs.declared.listing.Listed.{Listed}
+use Rattle.catalogue.specs.Filling.{fileLimit, fillFrom, leftFrom, fillSays, fillPool, fileSays, filePool, entriesIn, AllEntries}
+use Rattle.catalogue.specs.Listing.{Lists, written}
+use Rattle.catalogue.specs.Program.{programCapacity, poolLength, wordsLength, lineLength, Writes}
+use Rattle.catalogue.proofs.Laws.Filling.{AllBytes, Filled, key-bytes, lines-bytes, file-short, fill-means, fill-accepts}
+use Rattle.catalogue.proofs.Laws.Building.{map-image, built-image}
+use Rattle.catalogue.proofs.Laws.Listing.{lists-map}
+
+empty-catalogue : Catalogue []
+empty-catalogue = record { rising = tt; proper = tt }
+
+-- the entries of lines make a catalogue
+entries-catalogue : (ls : List (List ℕ)) (m : Map) → Catalogue m → AllBytes ls → AllEntries ls → Catalogue (insertAll (entriesIn ls) m)
+unfolding entriesIn insertAll
+entries-catalogue [] m c b a = c
+entries-catalogue (l ∷ ls) m c b ((e, f, d), a) =
+    rw f (entries-catalogue ls (insert (e .0) (e .1) m) (insert-catalogue (e .0) (e .1) m d (key-bytes l e f (b .0)) (tabEntry-plain l e f .value) c) (b .1) a)
+
+-- no key is longer than there are prefixes
+key-short : (m : Map) → Catalogue m → (e : Entry) → In e m → length (e .0) ≤ length (prefixes m)
+unfolding nodes
+key-short m c e i =
+    let node : In (e .0) (nodes m) = nodes-iff m (e .0) .1 (inr (e, i, prefix-refl (e .0))) in
+    let inside = nodeOf-node m (e .0) node in
+    let same : length (pathOf m (nodeOf m (e .0))) ≡ length (e .0) = ap length (pathOf-nodeOf m (e .0) node) in
+    omega (arith, path-short m c (nodeOf m (e .0)) inside, inside .1, same)
+
+module _ (text : List ℕ) (bytes : Bytes text) (short : length text ≤ fileLimit) (entries : AllEntries (entryLines text))
+    (few : length (prefixes (insertAll (entriesIn (entryLines text)) [])) ≤ programCapacity) (p : Pool) (size : length p ≡ poolLength) where
+  abbrev m : Map
+  m = insertAll (entriesIn (entryLines text)) []
+
+  rooted : recordWords ≤ length p
+  rooted = omega (arith, size)
+
+  all-bytes : AllBytes (entryLines text)
+  all-bytes = lines-bytes text bytes
+
+  catalogue : Catalogue m
+  catalogue = entries-catalogue (entryLines text) [] empty-catalogue all-bytes entries
+
+  empty : poolMap (resetPool p) ≡ []
+  empty = reset-means-empty p rooted
+
+  room : capacity (resetPool p) ≡ programCapacity
+  room = omega (arith, length-reset p, size)
+
+  said : fillFrom 1 (resetPool p) (entryLines text) ≡ 0 ∷ []
+  said =
+      fill-accepts (entryLines text) 1 (resetPool p) (reset-sound p rooted) all-bytes entries
+      (subst (λ (n : Map). length (prefixes (insertAll (entriesIn (entryLines text)) n)) ≤ capacity (resetPool p)) (sym empty) (omega (arith, room, few)))
+
+  filled : Filled (resetPool p) (entryLines text)
+  filled = fill-means (entryLines text) 0 (resetPool p) (reset-sound p rooted) all-bytes said
+
+  left-is : leftFrom (resetPool p) (entryLines text) ≡ filePool p text
+  unfolding fillPool
+  left-is = file-short p text short .1
+
+  says : fileSays p text ≡ 0 ∷ []
+  unfolding fillSays
+  says = sym (file-short p text short .0) ∙ said
+
+  holds : poolMap (filePool p text) ≡ m
+  holds = ap poolMap (sym left-is) ∙ filled .holds ∙ ap (insertAll (entriesIn (entryLines text))) empty
+
+  sound : Sound (filePool p text)
+  sound = subst Sound left-is (filled .sound)
+
+  module _ (ls vs ws qs : List ℕ) (ls-long : length ls ≡ programCapacity) (vs-long : length vs ≡ programCapacity) (ws-long : length ws ≡ wordsLength) (qs-long : length qs ≡ programCapacity) where
+    abbrev n : ℕ
+    n = length (prefixes m)
+
+    built : 0 ∷ n ∷ [] ≡ buildSays (filePool p text) ls vs ws qs
+    unfolding fitSays buffersFit
+    built =
+        sym
+        (build-says (filePool p text) sound ls vs ws qs
+        ∙ ap (λ (x : Map). fitSays (length (prefixes x)) (length ls) (length vs) (length ws) (length qs)) holds
+        ∙ rw (le-leb n (length ls) (omega (arith, few, ls-long)), le-leb n (length vs) (omega (arith, few, vs-long)), le-leb ((2 * n + 3 + 63) / 64) (length ws) (omega (arith, few, ws-long)), le-leb n (length qs) (omega (arith, few, qs-long))))
+
+    shown : lent (take n (buildLabels (filePool p text) ls vs ws qs)) (take n (buildValues (filePool p text) ls vs ws qs)) (take ((2 * n + 66) / 64) (buildWords (filePool p text) ls vs ws qs)) ≡ image m
+    shown =
+        built-image (filePool p text) ls vs ws qs n (λ s. subst Catalogue (sym holds) catalogue) built .shows ∙ ap image holds
+
+    whole : MapImage (image m)
+    whole = map-image m catalogue (omega (arith, few))
+
+    fits : (key line : List ℕ) → length key ≡ programCapacity → length line ≡ lineLength → (e : Entry) → In e (imageMap (image m))
+        → (length (e .0) ≤ length key) × (length (tabText e) ≤ length line)
+    fits key line k l e i =
+        let member : In e m = subst (λ (x : Map). In e x) (imageMap-image m catalogue) i in
+        let s = key-short m catalogue e member in
+        let proper = proper-in m (catalogue .proper) e member in
+        (omega (arith, s, few, k), omega (arith, s, few, l, length-tabText-most e (proper .2)))
+
+    pub program-writes : Writes p text ls vs ws qs
+    program-writes =
+        record {
+          pushed = says;
+          built = sym built;
+          listed =
+              λ cursor key line answer k l run.
+              let here-run : Lists (image m) cursor key line answer = subst (λ (i : Image). Lists i cursor key line answer) shown run in
+              let (texts, last) = lists-map (image m) whole cursor key line answer here-run (fits (key 0) (line 0) k l) in
+              let back : imageMap (image m) ≡ m = imageMap-image m catalogue in
+              (ap (λ (x : Map). written answer line (length x) 0) (sym back) ∙ texts ∙ ap mapText back, ap (λ (x : Map). answer (length x)) (sym back) ∙ last);
+        }

@@ -1,0 +1,135 @@
+-- `catalogue::listing::write_pool` is safe and ends: what is lent of the buffers after a build is a map's image. Assumes nothing.
+use mathlib.Core.Path.{_≡_, sym, ap, subst, _∙_}
+use mathlib.Core.List.{List}
+use Prim.Native.Nat.{ℕ, _+_, _*_, _/_, _≤_}
+use native.Mathlib.Omega.{arith}
+use lib.ListN.{length, take}
+use lib.Seq.{length-take-le}
+use Rattle.records.proofs.Laws.Meaning.{map-catalogue}
+use Rattle.image.specs.Build.{saidBuilt}
+use Rattle.image.specs.Meaning.{lent, MapImage}
+use Rattle.catalogue.proofs.Laws.Building.{BuiltImage, word-bounded, built-image}
+use borrow.Author.Needs.{needs}
+use Rattle.catalogue.proofs.listing.write_pool.Statement.{statement}
+use Rattle.catalogue.proofs.listing.write_pool.Tie as tie
+
+build-requires : tie.Need-build-requires
+build-requires c κs = search needs
+
+enum-known-n : tie.Need-enum-known-n
+enum-known-n c = search needs
+
+cast-nodes : tie.Need-cast-nodes
+cast-nodes c = search needs
+
+built : (c : tie.After-known-told) → BuiltImage (c .before .before .before .before .before .before .before .before .before .before .before .before .before .before .before .before .before .before .before .before .before .before .before .args .pool .now) (c .before .before .before .before .before .before .before .before .before .before .before .before .before .before .before .before .before .before .before .before .before .before .before .args .labels .now) (c .before .before .before .before .before .before .before .before .before .before .before .before .before .before .before .before .before .before .before .before .before .before .before .args .values .now) (c .before .before .before .before .before .before .before .before .before .before .before .before .before .before .before .before .before .before .before .before .before .before .before .args .words .now) (c .before .before .before .before .before .before .before .before .before .before .before .before .before .before .before .before .before .before .before .before .before .before .before .args .scratch .now) (c .before .n .given .0 .0)
+built c =
+    built-image _ _ _ _ _ _ (λ s. map-catalogue _ s (word-bounded _ (λ j. c .before .before .before .before .before .before .before .before .before .before .before .before .before .before .before .before .before .before .before .before .before .before .shared-slice-known .given j .fits)))
+    (ap saidBuilt (sym (c .before .n .given .1)) ∙ c .before .before .before .before .before .before .before .before .before .before .before .build .ensures .0)
+
+labels-in : (c : tie.After-known-told) → c .before .n .given .0 .0 ≤ length (c .before .before .before .before .before .before .before .before .before .before .before .build .last .1 .0)
+labels-in c = subst (λ (xs : List ℕ). c .before .n .given .0 .0 ≤ length xs) (sym (c .before .before .before .before .before .before .before .before .before .before .before .build .ensures .1 .0)) (built c .labels-in)
+
+values-in : (c : tie.After-known-told) → c .before .n .given .0 .0 ≤ length (c .before .before .before .before .before .before .before .before .before .before .before .build .last .1 .1 .0)
+values-in c = subst (λ (xs : List ℕ). c .before .n .given .0 .0 ≤ length xs) (sym (c .before .before .before .before .before .before .before .before .before .before .before .build .ensures .1 .1 .0)) (built c .values-in)
+
+words-in : (c : tie.After-known-told) → (2 * c .before .n .given .0 .0 + 66) / 64 ≤ length (c .before .before .before .before .before .before .before .before .before .before .before .build .last .1 .1 .1 .0)
+words-in c = subst (λ (xs : List ℕ). (2 * c .before .n .given .0 .0 + 66) / 64 ≤ length xs) (sym (c .before .before .before .before .before .before .before .before .before .before .before .build .ensures .1 .1 .1 .0)) (built c .words-in)
+
+slice-reshare-prefix-write-listing : tie.Need-slice-reshare-prefix-write-listing
+slice-reshare-prefix-write-listing c = labels-in c
+
+slice-aggregate-write-listing : tie.Need-slice-aggregate-write-listing
+slice-aggregate-write-listing c = sym (length-take-le _ _ (labels-in (c .before)))
+
+slice-reshare-prefix-write-listing-2 : tie.Need-slice-reshare-prefix-write-listing-2
+slice-reshare-prefix-write-listing-2 c = values-in (c .before)
+
+slice-aggregate-write-listing-2 : tie.Need-slice-aggregate-write-listing-2
+slice-aggregate-write-listing-2 c = sym (length-take-le _ _ (values-in (c .before .before)))
+
+mul-write-listing : tie.Need-mul-write-listing
+mul-write-listing c = search needs
+
+add-write-listing : tie.Need-add-write-listing
+add-write-listing c = search needs
+
+slice-reshare-prefix-write-listing-3 : tie.Need-slice-reshare-prefix-write-listing-3
+slice-reshare-prefix-write-listing-3 c = words-in (c .before .before)
+
+slice-aggregate-write-listing-3 : tie.Need-slice-aggregate-write-listing-3
+slice-aggregate-write-listing-3 c = sym (length-take-le _ _ (words-in (c .before .before .before)))
+
+write-listing-requires : tie.Need-write-listing-requires
+write-listing-requires c κs =
+    let b = built (c .before .before .before .before .before) in
+    let n = c .before .before .before .before .before .before .n .given .0 .0 in
+    let l = c .before .before .before .before .before .before .before .before .before .before .before .before .before .before .before .before .build .ensures .1 .0 in
+    let v = c .before .before .before .before .before .before .before .before .before .before .before .before .before .before .before .before .build .ensures .1 .1 .0 in
+    let w = c .before .before .before .before .before .before .before .before .before .before .before .before .before .before .before .before .build .ensures .1 .1 .1 .0 in
+    subst MapImage (sym ((λ i. lent (take n (l i)) (take n (v i)) (take ((2 * n + 66) / 64) (w i))) ∙ b .shows)) (b .is-map)
+
+same-length : tie.Need-same-length
+same-length c = search needs
+
+same-length-2 : tie.Need-same-length-2
+same-length-2 c = search needs
+
+same-length-3 : tie.Need-same-length-3
+same-length-3 c = search needs
+
+same-length-4 : tie.Need-same-length-4
+same-length-4 c = search needs
+
+same-length-5 : tie.Need-same-length-5
+same-length-5 c = search needs
+
+same-length-6 : tie.Need-same-length-6
+same-length-6 c = search needs
+
+returns : tie.Need-returns
+returns c = search needs
+
+same-length-7 : tie.Need-same-length-7
+same-length-7 c = search needs
+
+same-length-8 : tie.Need-same-length-8
+same-length-8 c = search needs
+
+same-length-9 : tie.Need-same-length-9
+same-length-9 c = search needs
+
+same-length-10 : tie.Need-same-length-10
+same-length-10 c = search needs
+
+returns-2 : tie.Need-returns-2
+returns-2 c = search needs
+
+pub write-pool-spec : {M : Type 1} → statement M
+write-pool-spec =
+    tie.close
+    (tie.spec
+    build-requires
+    enum-known-n
+    cast-nodes
+    slice-reshare-prefix-write-listing
+    slice-aggregate-write-listing
+    slice-reshare-prefix-write-listing-2
+    slice-aggregate-write-listing-2
+    mul-write-listing
+    add-write-listing
+    slice-reshare-prefix-write-listing-3
+    slice-aggregate-write-listing-3
+    write-listing-requires
+    same-length
+    same-length-2
+    same-length-3
+    same-length-4
+    same-length-5
+    same-length-6
+    returns
+    same-length-7
+    same-length-8
+    same-length-9
+    same-length-10
+    returns-2)

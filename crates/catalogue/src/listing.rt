@@ -1,0 +1,124 @@
+// The listing of a pool's map, line by line.
+ghost use mathlib.Core.Path.{_≡_};
+ghost use Rattle.image.specs.Meaning.{lent, MapImage};
+ghost use Rattle.trie.specs.GivenKey.{keyOut};
+ghost use Rattle.catalogue.specs.Listing.{saidListed, listSays, listKey, listLine, givenSays, givenLine};
+use crate::printing::say;
+use image::answers::Built;
+use lines::answers::Written;
+use trie::Cursor;
+use trie::Spelled;
+use trie::Started;
+use trie::Stepped;
+
+pub enum Listed {
+    // So many bytes of the line's room are the next entry's text, its LF among them.
+    Line { length: usize, next: Cursor },
+    // There is no next entry.
+    End,
+    // The lent image is no map's image.
+    NotAnImage,
+    // The cursor does not belong to the image.
+    BadPlace,
+    // The key or its line is longer than its room.
+    KeyRoom,
+}
+
+// The line of the next entry of a listing.
+pub fn list_next(
+    labels: &[u16],
+    values: &[u32],
+    words: &[u64],
+    cursor: Cursor,
+    key: &mut [u8],
+    line: &mut [u8],
+) -> Listed
+    ensures answer { λ r. ⌜ saidListed r ≡ listSays (lent (now (labels .entry)) (now (values .entry)) (now (words .entry))) cursor (now (key .entry)) (now (line .entry)) ⌝ }
+    ensures key { λ _. ⌜ now (key .exit) ≡ listKey (lent (now (labels .entry)) (now (values .entry)) (now (words .entry))) cursor (now (key .entry)) ⌝ }
+    ensures line { λ _. ⌜ now (line .exit) ≡ listLine (lent (now (labels .entry)) (now (values .entry)) (now (words .entry))) cursor (now (key .entry)) (now (line .entry)) ⌝ }
+{
+    match trie::step(labels, values, words, cursor) {
+        Stepped::Gave {
+            node: _,
+            value,
+            next,
+        } => write_next(labels, values, words, next, value, key, line),
+        Stepped::End { next: _ } => Listed::End,
+        Stepped::NotAnImage => Listed::NotAnImage,
+        Stepped::BadPlace => Listed::BadPlace,
+    }
+}
+
+// The line of the entry that a cursor gave last.
+fn write_next(
+    labels: &[u16],
+    values: &[u32],
+    words: &[u64],
+    cursor: Cursor,
+    value: u32,
+    key: &mut [u8],
+    line: &mut [u8],
+) -> Listed
+    ensures answer { λ r. ⌜ saidListed r ≡ givenSays (lent (now (labels .entry)) (now (values .entry)) (now (words .entry))) cursor value (now (key .entry)) (now (line .entry)) ⌝ }
+    ensures key { λ _. ⌜ now (key .exit) ≡ keyOut (lent (now (labels .entry)) (now (values .entry)) (now (words .entry))) cursor (now (key .entry)) ⌝ }
+    ensures line { λ _. ⌜ now (line .exit) ≡ givenLine (lent (now (labels .entry)) (now (values .entry)) (now (words .entry))) cursor value (now (key .entry)) (now (line .entry)) ⌝ }
+{
+    match trie::cursor_key(labels, values, words, cursor, key) {
+        Spelled::Wrote(length) => match lines::write_line(&key[..length], value, line) {
+            Written::Length(length) => Listed::Line {
+                length,
+                next: cursor,
+            },
+            Written::KeyRoom => Listed::KeyRoom,
+        },
+        Spelled::NotAnImage => Listed::NotAnImage,
+        Spelled::BadPlace => Listed::BadPlace,
+        Spelled::KeyRoom => Listed::KeyRoom,
+    }
+}
+
+// Writes the listing of an image, up to a write that fails.
+fn write_listing(labels: &[u16], values: &[u32], words: &[u64], key: &mut [u8], line: &mut [u8])
+    requires { ⌜ MapImage (lent (now labels) (now values) (now words)) ⌝ }
+{
+    let Started::At(start) = trie::predictive_search(labels, values, words, b"") else {
+        return;
+    };
+    let mut cursor = start;
+    loop {
+        match list_next(labels, values, words, cursor, key, line) {
+            Listed::Line { length, next } => {
+                if !say(&line[..length]) {
+                    return;
+                }
+                cursor = next;
+            }
+            _ => return,
+        }
+    }
+}
+
+// Builds the image of a pool's map and writes its listing.
+pub fn write_pool(
+    pool: &[u32],
+    labels: &mut [u16],
+    values: &mut [u32],
+    words: &mut [u64],
+    scratch: &mut [u32],
+    key: &mut [u8],
+    line: &mut [u8],
+) {
+    match image::build(pool, labels, values, words, scratch) {
+        Built::Nodes(n) => {
+            let nodes = n as usize;
+            write_listing(
+                &labels[..nodes],
+                &values[..nodes],
+                &words[..(2 * nodes + 66) / 64],
+                key,
+                line,
+            );
+        }
+        _ => {}
+    }
+}

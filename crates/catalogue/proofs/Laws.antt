@@ -1,5 +1,8 @@
 -- The laws of the definitions, and what the program writes. Assumes nothing.
 pub mod Filling
 pub mod Building
+pub mod GivenLine
+pub mod Next
 pub mod Listing
+pub mod WholeListing
 pub mod Program

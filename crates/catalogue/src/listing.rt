@@ -110,6 +110,7 @@ pub fn write_pool(
 ) {
     match image::build(pool, labels, values, words, scratch) {
         Built::Nodes(n) => {
+            // 2n + 3 bits in words of 64.
             let nodes = n as usize;
             write_listing(
                 &labels[..nodes],

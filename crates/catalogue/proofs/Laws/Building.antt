@@ -32,7 +32,7 @@ use Rattle.image.specs.Buffers.{over}
 use Rattle.image.specs.Build.{buffersFit, fitSays, buildSays, buildLabels, buildValues, buildWords}
 use Rattle.image.specs.Meaning.{lent, MapImage}
 use Rattle.image.proofs.Laws.Buffers.{length-over, take-over}
-use Rattle.image.proofs.Laws.Build.{fit-all, says-sound}
+use Rattle.image.proofs.Laws.Build.{fit-all}
 use Rattle.image.proofs.Laws.PoolImage.{build-means-image}
 
 pub word-bounded : (p : Pool) → ((j : ℕ) → getD p j 0 < valueLimit) → Bounded p

@@ -15,10 +15,10 @@ use mathlib.Core.List.{List, [], _∷_, _++_}
 use mathlib.Core.Option.{Option, none, some}
 use lib.ListN.{length, take, drop}
 use lib.Dec.{eqb}
-use borrow.Author.Tests.{lt-ltb, le-ltb, le-leb, eq-eqb, ne-eqb, eqb-false}
+use borrow.Author.Tests.{lt-ltb, le-ltb, eq-eqb, ne-eqb, eqb-false}
 use Rattle.keymap.specs.Limits.{byteLimit}
 use Rattle.keymap.specs.Key.{Key, Bytes}
-use Rattle.keymap.specs.Map.{Entry, Map, Rising, insert, insertAll}
+use Rattle.keymap.specs.Map.{Entry, Map, insert, insertAll}
 use Rattle.keymap.specs.Prefixes.{prefixes}
 use Rattle.keymap.specs.Refusals.{Refusal, refusalNumber}
 use Rattle.keymap.proofs.Laws.Begins.{bytes-prefix, prefix-leading}
@@ -34,12 +34,12 @@ use Rattle.pool.specs.Push.{pushSays, pushPool}
 use Rattle.pool.specs.History.{Call}
 use Rattle.pool.proofs.Laws.Push.{push-keeps, length-push}
 use Rattle.pool.proofs.Laws.Meaning.{push-means-insert}
-use Rattle.pool.proofs.Laws.History.{call-says}
+use Rattle.pool.proofs.Laws.History.{call-says, prefixes-insertAll, fits-says}
 use Rattle.lines.specs.Bytes.{tab, lineFeed, stretch}
 use Rattle.lines.specs.TabLine.{keyPart, tabEntry, entrySays, entryKey, tabLineSays, tabLineKey}
 use Rattle.lines.specs.Text.{inFirst, linesOf, entryLines}
 use Rattle.lines.proofs.Laws.TabLine.{tabEntry-some}
-use Rattle.catalogue.specs.Filling.{fileLimit, lineSays, linePool, fillFrom, leftFrom, fillSays, fillPool, fileSays, filePool, withEntry, entriesIn, AllEntries}
+use Rattle.catalogue.specs.Filling.{fileLimit, lineSays, linePool, fillFrom, leftFrom, fillSays, fillPool, fileSays, filePool, entriesIn, AllEntries}
 
 -- ---- one line
 
@@ -161,20 +161,9 @@ fill-means (l ∷ ls) n p s b h = go (tabEntry l) refl (λ q t. fill-means ls (s
 
 -- ---- and when they are accepted whole
 
--- inserts take no prefix away
-prefixes-grow : (es m : Map) → Rising m → length (prefixes m) ≤ length (prefixes (insertAll es m))
-unfolding insertAll
-prefixes-grow [] m r = omega arith
-prefixes-grow (e ∷ es) m r =
-    omega (arith, prefixes-insert (e .0) (e .1) m r, prefixes-grow es (insert (e .0) (e .1) m) (insert-rising (e .0) (e .1) m r))
-
-not-empty : (k : Key) → ¬ (k ≡ []) → eqb (length k) 0 ≡ false
-not-empty [] n = absurd (n refl)
-not-empty (b ∷ k) n = ne-eqb (length (b ∷ k)) 0 (λ e. omega arith)
-
 -- a key for which there is room is accepted
 push-fits : (p : Pool) → Sound p → (k : Key) (v : ℕ) → ¬ (k ≡ []) → length (prefixes (insert k v (poolMap p))) ≤ capacity p → pushSays p k ≡ 0 ∷ []
-push-fits p s k v d few = call-says p s (Call.push k v) ∙ rw (not-empty k d, le-leb _ _ few)
+push-fits p s k v d few = call-says p s (Call.push k v) ∙ fits-says (capacity p) (poolMap p) k v d few
 
 pub fill-accepts : (ls : List (List ℕ)) (n : ℕ) (p : Pool) → Sound p → AllBytes ls → AllEntries ls
     → length (prefixes (insertAll (entriesIn ls) (poolMap p))) ≤ capacity p → fillFrom n p ls ≡ 0 ∷ []
@@ -184,7 +173,7 @@ fill-accepts (l ∷ ls) n p s b ((e, f, d), a) few =
     let kb : Bytes (e .0) = key-bytes l e f (b .0) in
     let m : Map = insert (e .0) (e .1) (poolMap p) in
     let whole : length (prefixes (insertAll (entriesIn ls) m)) ≤ capacity p = rw f at few in
-    let room : length (prefixes m) ≤ capacity p = omega (arith, prefixes-grow (entriesIn ls) m (insert-rising (e .0) (e .1) (poolMap p) (map-rising p s))) in
+    let room : length (prefixes m) ≤ capacity p = omega (arith, prefixes-insertAll (entriesIn ls) m (insert-rising (e .0) (e .1) (poolMap p) (map-rising p s))) in
     let says : pushSays p (e .0) ≡ 0 ∷ [] = push-fits p s (e .0) (e .1) d room in
     let yes-said : accepted (pushSays p (e .0)) ≡ true = ap accepted says in
     let q : Pool = pushPool p (e .0) (e .1) in

@@ -5,16 +5,13 @@
 -- Assumes nothing.
 use mathlib.Core.Path.{_≡_, refl, sym, ap, subst, _∙_}
 use mathlib.Core.Logic.{inr}
-use Prim.Native.Nat.{ℕ, _+_, _*_, _/_, _≤_, _<_}
+use Prim.Native.Nat.{ℕ, _+_, _*_, _/_, _≤_}
 use native.Mathlib.Omega.{arith}
-use mathlib.Core.Bool.{true}
 use mathlib.Core.List.{List, [], _∷_}
-use mathlib.Core.Option.{some}
 use lib.ListN.{length, take}
 use borrow.Author.Tests.{le-leb}
-use Rattle.keymap.specs.Limits.{valueLimit, mostRecords}
 use Rattle.keymap.specs.Members.{In}
-use Rattle.keymap.specs.Key.{Key, Bytes}
+use Rattle.keymap.specs.Key.{Bytes}
 use Rattle.keymap.specs.Map.{Entry, Map, Catalogue, insert, insertAll}
 use Rattle.keymap.specs.Prefixes.{prefixes}
 use Rattle.keymap.specs.Image.{Image, image}
@@ -30,6 +27,7 @@ use Rattle.records.specs.Meaning.{poolMap}
 use Rattle.pool.specs.Reset.{resetPool}
 use Rattle.pool.proofs.Laws.Reset.{reset-sound, length-reset}
 use Rattle.pool.proofs.Laws.Meaning.{reset-means-empty}
+use Rattle.pool.proofs.Laws.History.{empty-catalogue}
 use Rattle.image.specs.Build.{buffersFit, fitSays, buildSays, buildLabels, buildValues, buildWords}
 use Rattle.image.specs.Meaning.{lent, MapImage}
 use Rattle.image.proofs.Laws.History.{build-says}
@@ -37,18 +35,13 @@ use Rattle.lines.specs.TabLine.{tabEntry}
 use Rattle.lines.specs.Text.{entryLines}
 use Rattle.lines.specs.Writing.{tabText, mapText}
 use Rattle.lines.proofs.Laws.Writing.{tabEntry-plain, length-tabText-most}
-use Rattle.trie.specs.declared.Cursor.{Cursor}
 use Rattle.trie.proofs.Laws.Spelling.{path-short}
-use Rattle.catalogue.specs.declared.listing.Listed.{Listed}
 use Rattle.catalogue.specs.Filling.{fileLimit, fillFrom, leftFrom, fillSays, fillPool, fileSays, filePool, entriesIn, AllEntries}
 use Rattle.catalogue.specs.Listing.{Lists, written}
 use Rattle.catalogue.specs.Program.{programCapacity, poolLength, wordsLength, lineLength, Writes}
 use Rattle.catalogue.proofs.Laws.Filling.{AllBytes, Filled, key-bytes, lines-bytes, file-short, fill-means, fill-accepts}
 use Rattle.catalogue.proofs.Laws.Building.{map-image, built-image}
-use Rattle.catalogue.proofs.Laws.Listing.{lists-map}
-
-empty-catalogue : Catalogue []
-empty-catalogue = record { rising = tt; proper = tt }
+use Rattle.catalogue.proofs.Laws.WholeListing.{lists-map}
 
 -- the entries of lines make a catalogue
 entries-catalogue : (ls : List (List ℕ)) (m : Map) → Catalogue m → AllBytes ls → AllEntries ls → Catalogue (insertAll (entriesIn ls) m)

@@ -1,5 +1,5 @@
 -- `catalogue::filling::push_from` meets its contract: what is said of the lines from `at` on, pushed into the pool as it stands, is what is said of all. Assumes nothing.
-use Prim.Native.Nat.{ℕ, _+_, _-_, _≤_}
+use Prim.Native.Nat.{_+_, _-_, _≤_}
 use native.Mathlib.Omega.{arith}
 use native.Mathlib.Numerals.{add-one}
 use mathlib.Core.Path.{_≡_, refl, sym, ap, _∙_}

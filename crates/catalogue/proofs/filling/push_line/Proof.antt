@@ -1,13 +1,10 @@
 -- `catalogue::filling::push_line` meets its contract: the line's entry is pushed, and a line without one is 9. Assumes nothing.
-use mathlib.Core.Path.{_≡_, refl, sym, ap, _∙_}
-use mathlib.Core.List.{[], _∷_}
-use mathlib.Core.Option.{Option, none, some}
+use mathlib.Core.Path.{sym, ap, _∙_}
+use mathlib.Core.Option.{none}
 use borrow.Author.Needs.{needs}
 use Rattle.keymap.specs.Key.{Key}
-use Rattle.keymap.specs.Map.{Entry}
 use Rattle.pool.specs.Push.{pushSays, pushPool}
 use Rattle.lines.specs.Answers.{saidParsed}
-use Rattle.lines.specs.TabLine.{tabEntry, tabLineKey}
 use Rattle.catalogue.specs.Filling.{lineSays, linePool}
 use Rattle.catalogue.proofs.Laws.Filling.{entry-said, entry-none}
 use Rattle.catalogue.proofs.filling.push_line.Statement.{statement}

@@ -1,14 +1,12 @@
 -- `catalogue::listing::write_listing` is safe and ends: each line takes an entry from what the listing has still to give. Assumes nothing.
 use mathlib.Core.Path.{_≡_, sym, ap, _∙_}
-use Prim.Native.Nat.{ℕ}
-use native.Mathlib.Omega.{arith}
 use lib.ListN.{length}
 use lib.Seq.{length-take-le}
 use borrow.Author.Needs.{needs}
 use Rattle.keymap.specs.Image.{Image}
 use Rattle.keymap.specs.Decode.{imageMap}
 use Rattle.image.specs.Meaning.{lent}
-use Rattle.catalogue.specs.Listing.{saidListed, restOf, listLine}
+use Rattle.catalogue.specs.Listing.{saidListed, restOf}
 use Rattle.catalogue.proofs.Laws.Listing.{LineIs, line-next}
 use Rattle.catalogue.proofs.listing.write_listing.Statement.{statement}
 use Rattle.catalogue.proofs.listing.write_listing.Tie as tie

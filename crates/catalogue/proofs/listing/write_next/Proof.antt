@@ -1,6 +1,5 @@
 -- `catalogue::listing::write_next` meets its contract: the cursor's key stands at the front of its room, and the line is written of it. Assumes nothing.
-use mathlib.Core.Path.{_≡_, refl, sym, ap, _∙_}
-use mathlib.Core.List.{List, [], _∷_}
+use mathlib.Core.Path.{_≡_, sym, ap, _∙_}
 use Prim.Native.Nat.{ℕ}
 use native.Mathlib.Omega.{arith}
 use lib.ListN.{length, take}
@@ -13,8 +12,7 @@ use Rattle.lines.specs.Answers.{saidWritten}
 use Rattle.trie.specs.declared.Spelled.{Spelled}
 use Rattle.trie.specs.declared.Spelled.the-variants as spelled
 use Rattle.trie.specs.Answers.{saidSpelled}
-use Rattle.trie.specs.GivenKey.{keyOut}
-use Rattle.catalogue.proofs.Laws.Listing.{Front, key-front, line-written, line-short, key-refusal}
+use Rattle.catalogue.proofs.Laws.GivenLine.{Front, key-front, line-written, line-short, key-refusal}
 use Rattle.catalogue.proofs.listing.write_next.Statement.{statement}
 use Rattle.catalogue.proofs.listing.write_next.Tie as tie
 

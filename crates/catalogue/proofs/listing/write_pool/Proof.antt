@@ -1,8 +1,7 @@
 -- `catalogue::listing::write_pool` is safe and ends: what is lent of the buffers after a build is a map's image. Assumes nothing.
-use mathlib.Core.Path.{_≡_, sym, ap, subst, _∙_}
+use mathlib.Core.Path.{sym, ap, subst, _∙_}
 use mathlib.Core.List.{List}
 use Prim.Native.Nat.{ℕ, _+_, _*_, _/_, _≤_}
-use native.Mathlib.Omega.{arith}
 use lib.ListN.{length, take}
 use lib.Seq.{length-take-le}
 use Rattle.records.proofs.Laws.Meaning.{map-catalogue}

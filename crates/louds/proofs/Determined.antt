@@ -24,6 +24,9 @@ use Rattle.louds.proofs.select.zero_from.Reads as zero-from-reads
 use Rattle.louds.proofs.select.one_at
 use Rattle.louds.proofs.select.one_at.Kinds as one-at-kinds
 use Rattle.louds.proofs.select.one_at.Reads as one-at-reads
+use Rattle.louds.proofs.select.one_back
+use Rattle.louds.proofs.select.one_back.Kinds as one-back-kinds
+use Rattle.louds.proofs.select.one_back.Reads as one-back-reads
 use Rattle.louds.proofs.nodes.children
 use Rattle.louds.proofs.nodes.children.Kinds as children-kinds
 use Rattle.louds.proofs.nodes.children.Reads as children-reads
@@ -58,6 +61,10 @@ module _ (κs : Lfts 1) where
   pub one-at-determined : (a : ArgsD one_at.signature κs) (r₁ r₂ : ResD one_at.signature κs) (s₁ s₂ : AtExit (endedOf 1 one-at-kinds.ps one-at-kinds.r) κs)
       → one-at-reads.Post κs a r₁ s₁ → one-at-reads.Post κs a r₂ s₂ → r₁ ≡ r₂
   one-at-determined a r₁ r₂ s₁ s₂ p q = p ∙ sym q
+
+  pub one-back-determined : (a : ArgsD one_back.signature κs) (r₁ r₂ : ResD one_back.signature κs) (s₁ s₂ : AtExit (endedOf 1 one-back-kinds.ps one-back-kinds.r) κs)
+      → one-back-reads.Post κs a r₁ s₁ → one-back-reads.Post κs a r₂ s₂ → r₁ ≡ r₂
+  one-back-determined a r₁ r₂ s₁ s₂ p q = p ∙ sym q
 
   pub children-determined : (a : ArgsD children.signature κs) (r₁ r₂ : ResD children.signature κs) (s₁ s₂ : AtExit (endedOf 1 children-kinds.ps children-kinds.r) κs)
       → children-reads.Post κs a r₁ s₁ → children-reads.Post κs a r₂ s₂ → r₁ ≡ r₂

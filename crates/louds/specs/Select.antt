@@ -3,11 +3,12 @@
 --
 --     kth           the k-th marked place below len
 --     oneAt         the m-th one
+--     oneBack       the k-th one before a place, counted down
 --     zeroAt        the k-th zero
 --     zeroFrom      the k-th zero at a place or beyond
 --     bitFrom       the k-th bit of a given value at a place or beyond
 -- Assumes nothing.
-use Prim.Native.Nat.{ℕ, zero, suc}
+use Prim.Native.Nat.{ℕ, zero, suc, _+_, _-_}
 use mathlib.Core.Bool.{cond}
 use lib.Dec.{leb}
 use Rattle.keymap.specs.Bits.{sumBelow}
@@ -32,6 +33,10 @@ marks b (suc (suc v)) = λ i. 0
 
 abbrev pub oneAt : (ℕ → ℕ) → ℕ → ℕ → Spot
 oneAt b len m = kth b len m
+
+-- counted up, the k-th from the end
+abbrev pub oneBack : (ℕ → ℕ) → ℕ → ℕ → Spot
+oneBack b from k = kth b from (sumBelow b from + 1 - k)
 
 abbrev pub zeroAt : (ℕ → ℕ) → ℕ → ℕ → Spot
 zeroAt b len k = kth (gap b) len k

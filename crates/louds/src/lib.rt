@@ -15,6 +15,7 @@ pub use nodes::parent;
 pub use rank::ones_before;
 pub use rank::zeros_before;
 pub use select::one_at;
+pub use select::one_back;
 pub use select::zero_at;
 pub use select::zero_from;
 

@@ -1,7 +1,7 @@
-// Selects: where the k-th zero or one stands, counted from 1, among the first `len` bits. The 0-th is missing.
+// Selects: where the k-th zero or one stands, counted from 1, among the first `len` bits, or going down, among those before a place. The 0-th is missing.
 ghost use mathlib.Core.Path.{_≡_};
 ghost use Rattle.keymap.specs.Bits.{bit};
-ghost use Rattle.louds.specs.Select.{bitFrom, zeroAt, zeroFrom, oneAt};
+ghost use Rattle.louds.specs.Select.{bitFrom, zeroAt, zeroFrom, oneAt, oneBack};
 use crate::Spot;
 use crate::bits::bit_at;
 
@@ -45,4 +45,22 @@ pub fn one_at(words: &[u64], len: usize, m: usize) -> Spot
     ensures { λ r. ⌜ r ≡ oneAt (bit (now (words .entry))) len m ⌝ }
 {
     bit_from(words, len, 1, 0, m)
+}
+
+// The k-th one before `from`, counted down. From the m-th one it is the one m - k of the sequence.
+pub fn one_back(words: &[u64], from: usize, k: usize) -> Spot
+    ensures { λ r. ⌜ r ≡ oneBack (bit (now (words .entry))) from k ⌝ }
+{
+    let mut seen: usize = 0;
+    let mut p = from;
+    while 0 < p {
+        p -= 1;
+        if bit_at(words, p) == 1 {
+            seen += 1;
+            if seen == k {
+                return Spot::At(p);
+            }
+        }
+    }
+    Spot::Missing
 }

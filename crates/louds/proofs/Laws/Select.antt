@@ -12,6 +12,7 @@
 --     rank-kth        the rank of what was selected, where a place bears at most one mark
 --     kth-rank        the place selected by its rank
 --     kth-mono        of two marks the one of higher number stands further
+--     kth-back        counted down from the k-th mark, the j-th is k - j marks back
 --     onward-at       from its place on, `onward` keeps the marks
 --     onward-before   before it, none
 --     kth-onward      the k-th mark from a place on, by the marks before it
@@ -146,6 +147,12 @@ module _ (m : ℕ → ℕ) (small : (i : ℕ) → m i ≤ 1) where
       let s = rank-kth len j p e in
       let t = rank-kth len k q f in
       sumBelow-lt m p q (omega (arith, s, t, l))
+
+  pub kth-back : (len j k p q : ℕ) → kth m len j ≡ At p → kth m len k ≡ At q → j < k → kth m q (sumBelow m q + 1 - (k - j)) ≡ At p
+  kth-back len j k p q e f l =
+      let s = rank-kth len j p e in
+      let t = rank-kth len k q f in
+      kth-at m q p (sumBelow m q + 1 - (k - j)) (kth-mono len j k p q e f l) (omega (arith, s, t)) (omega (arith, s, t))
 
 -- ---- going on from a place
 module _ (m : ℕ → ℕ) (from : ℕ) where

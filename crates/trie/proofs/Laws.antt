@@ -5,6 +5,7 @@ pub mod Answers
 pub mod Exact
 pub mod CommonPrefixes
 pub mod Steps
+pub mod Perches
 pub mod Spelling
 pub mod Glide
 pub mod Prefix

@@ -1,4 +1,5 @@
 // The path of a node, by climbing: its length, and its labels from the last to the first. Every function asks for an image that some map has.
+// The climb begins with one look from bit 0 on, and then goes over the bits once, since each perch knows where its one is.
 ghost use mathlib.Core.Path.{_≡_};
 ghost use Prim.Native.Nat.{_≤_};
 ghost use lib.ListN.{length};
@@ -8,6 +9,7 @@ ghost use Rattle.keymap.specs.Decode.{imageMap};
 ghost use Rattle.image.specs.Meaning.{lent, MapImage};
 ghost use Rattle.trie.specs.Spelling.{spelledTo};
 use crate::steps::parent_of;
+use crate::steps::perch_at;
 
 // How many labels lead to a node.
 pub fn depth(labels: &[u16], values: &[u32], words: &[u64], node: usize) -> usize
@@ -15,9 +17,9 @@ pub fn depth(labels: &[u16], values: &[u32], words: &[u64], node: usize) -> usiz
     requires { ⌜ IsNode (imageMap (lent (now labels) (now values) (now words))) node ⌝ }
     ensures { λ r. ⌜ r ≡ length (pathOf (imageMap (lent (now (labels .entry)) (now (values .entry)) (now (words .entry)))) node) ⌝ }
 {
-    let mut at = node;
+    let mut at = perch_at(labels, values, words, node);
     let mut count: usize = 0;
-    while 1 < at {
+    while 1 < at.node {
         at = parent_of(labels, values, words, at);
         count += 1;
     }
@@ -48,11 +50,11 @@ pub fn spell(
         ≡ spelledTo count (pathOf (imageMap (lent (now (labels .entry)) (now (values .entry)) (now (words .entry)))) node) (now (out .entry))
         ⌝ }
 {
-    let mut at = node;
+    let mut at = perch_at(labels, values, words, node);
     let mut left = count;
     while 0 < left {
         left -= 1;
-        out[left] = label_in(labels[at - 2]);
+        out[left] = label_in(labels[at.node - 2]);
         at = parent_of(labels, values, words, at);
     }
 }

@@ -1,5 +1,6 @@
 // Standing at a node of an image, and going down from it. Every function here asks for an image that some map has: the public calls test it, once.
-// A stand carries the place of its node's zero. Children are numbered above their parent, so the next zero lies ahead, and no select starts at bit 0 again.
+// A stand carries the place of its node's zero. Children are numbered above their parent, so the next zero lies ahead: a walk goes over the bits once,
+// and only `stand_at`, with which it begins, looks from bit 0 on.
 ghost use mathlib.Core.Path.{_≡_};
 ghost use mathlib.Core.List.{[], _∷_, _++_};
 ghost use Prim.Native.Nat.{_+_, _≤_, _<_};
@@ -48,7 +49,7 @@ pub enum Held {
 }
 
 // How many bits there are.
-fn bits_of(labels: &[u16], values: &[u32], words: &[u64]) -> usize
+pub fn bits_of(labels: &[u16], values: &[u32], words: &[u64]) -> usize
     requires { ⌜ MapImage (lent (now labels) (now values) (now words)) ⌝ }
     ensures { λ r. ⌜ r ≡ bitsLength (lent (now (labels .entry)) (now (values .entry)) (now (words .entry))) ⌝ }
 {
@@ -66,7 +67,8 @@ pub fn is_node(labels: &[u16], values: &[u32], words: &[u64], node: u32) -> bool
     node as usize <= labels.len() + 1
 }
 
-fn or_end(spot: Spot, len: usize) -> usize
+// Where a bit stands that was asked for, or the end of the bits among which it was.
+pub fn or_end(spot: Spot, len: usize) -> usize
     ensures { λ r. ⌜ r ≡ orEnd len spot ⌝ }
 {
     match spot {

@@ -1,24 +1,18 @@
--- From node to node of an image that some map has. A node but the root has the path of its parent and one byte more; its siblings are numbered on,
--- and their ones stand together, so the bit behind its own tells whether there is a next.
+-- From node to node of a map. A node but the root has the path of its parent and one byte more.
 --
 --     upper-node          the parent of a node: its path, and that its number is lower
 --     climb-sibling       a climb that meets a next sibling has come to the next node; `climb-up`: else it goes on, and `climb-ends` at the top
 --     seek-found          the next node has a value: it is given; `seek-on`: it has none, and fewer are left; `seek-ends`: there is none
 --     ascend-up           a node other than the top begins with it if its parent does; `ascend-ends`: at or above the top, only the top itself
---     parent-there        its number, as `louds` finds it
---     parent-always, children-always   it finds them of every node
---     child-first         the first child is the next of the children, and `child-none`
---     sibling-there       a one behind the node's own: the next number is the next of the siblings, and `sibling-none`
 -- Assumes nothing.
 use mathlib.Core.Path.{_≡_, refl, sym, ap, subst, _∙_}
-use mathlib.Core.Logic.{_↔_, _⊎_, inr, ⊎-elim}
-use Prim.Native.Nat.{ℕ, suc, _+_, _≤_, _<_}
-use native.Mathlib.Nat.{lt-of-not-le}
+use mathlib.Core.Logic.{_⊎_, inr, ⊎-elim}
+use Prim.Native.Nat.{ℕ, _+_, _-_, _≤_, _<_}
 use native.Mathlib.Omega.{arith}
 use mathlib.Core.Bool.{true}
 use mathlib.Core.Option.{none, some}
-use mathlib.Core.List.{List, [], _∷_, _++_, map}
-use lib.ListN.{length, getD, length-append, List·getD-eq-default}
+use mathlib.Core.List.{[], _∷_, _++_}
+use lib.ListN.{length, length-append}
 use lib.Dec.{eqb}
 use borrow.Author.Tests.{eqb-true, eq-eqb}
 use native.Mathlib.Decide.{ℕ-discrete}
@@ -26,28 +20,14 @@ use Rattle.keymap.specs.Members.{In}
 use Rattle.keymap.specs.Key.{Key, PrefixOf, beginsWith, lastByte}
 use Rattle.keymap.specs.Map.{Map, Catalogue, lookup}
 use Rattle.keymap.specs.Queries.{SomeBegins, beginning, leastAbove}
-use Rattle.keymap.specs.Prefixes.{prefixes}
-use Rattle.keymap.specs.Bits.{bit}
-use Rattle.keymap.specs.Image.{Image, childrenIn, degree, imageBits}
+use Rattle.keymap.specs.Image.{childrenIn}
 use Rattle.keymap.specs.Paths.{nodes, IsNode, pathOf, nodeOf}
 use Rattle.keymap.specs.Steps.{NextIn, LastIn, pathsBelow, nodesAbove, upper}
-use Rattle.keymap.specs.Decode.{imageMap}
 use Rattle.keymap.proofs.Laws.Begins.{prefix-iff, prefix-refl, prefix-trans, prefix-chain, prefix-proper}
-use Rattle.keymap.proofs.Laws.Bits.{bit-small, bit-pack}
-use Rattle.keymap.proofs.Laws.Degrees.{sequence-small}
-use Rattle.keymap.proofs.Laws.Image.{length-imageBits}
-use Rattle.keymap.proofs.Laws.Paths.{pathOf-root, pathOf-in, nodeOf-node, pathOf-nodeOf, nodeOf-pathOf, pathOf-one, nodes-iff, pathOf-longer, childrenIn-ordered, tests-same}
-use Rattle.keymap.proofs.Laws.Steps.{upper-last, nextIn-index, lastIn-index, nextIn-first, lastIn-none, last-child, next-sibling, last-sibling, pathsBelow-iff, leastAbove-valued, leastAbove-unvalued, leastAbove-last, nodesAbove-falls}
-use Rattle.louds.specs.declared.Kids.the-variants.{Run, NoNode}
-use Rattle.louds.specs.declared.Up.the-variants.{Node, NoOne}
-use Rattle.louds.specs.Nodes.{childrenOf, parentOf}
-use Rattle.louds.proofs.Laws.Nodes.{sibling-behind}
-use Rattle.louds.proofs.Laws.MapNodes.{mapBits, mapLength, ChildrenOf, children-node, child-label, parent-node}
-use Rattle.image.specs.Meaning.{MapImage}
-use Rattle.trie.specs.Walk.{bitsLength}
+use Rattle.keymap.proofs.Laws.Paths.{pathOf-root, pathOf-in, nodeOf-node, pathOf-nodeOf, nodeOf-pathOf, pathOf-one, nodes-iff, pathOf-longer, tests-same}
+use Rattle.keymap.proofs.Laws.Steps.{upper-last, last-child, next-sibling, last-sibling, pathsBelow-iff, leastAbove-valued, leastAbove-unvalued, leastAbove-last, nodesAbove-falls}
 use Rattle.trie.specs.declared.steps.Given.the-variants.{Entry, Nothing}
 use Rattle.trie.specs.Steps.{Under, givenBy}
-use Rattle.trie.proofs.Laws.Image.{bits-are, bitsLength-is, run-node}
 
 -- of a node but the root: its path is its parent's and one byte more
 pub record Upper (m : Map) (k : ℕ) : Type 0 where
@@ -78,32 +58,6 @@ module _ (m : Map) (c : Catalogue m) where
         inside = inside;
         back = back;
         lower = pathOf-longer m (c .rising) (nodeOf m (upper x)) k (nodeOf-node m (upper x) inside) h (omega (arith, ap length back, ap length e, length-append (upper x) (lastByte x ∷ [])));
-      }
-
-  -- where a node but the root stands among its siblings
-  record Placed (k : ℕ) : Type 0 where
-    kids : ChildrenOf m c (nodeOf m (upper (pathOf m k)))
-    place : ℕ
-    among : place < length (childrenIn m (upper (pathOf m k)))
-    number : k ≡ kids .first + place
-    own : pathOf m k ≡ getD (childrenIn m (upper (pathOf m k))) place []
-
-  placed : (k : ℕ) → IsNode m k → 2 ≤ k → Placed k
-  unfolding degree
-  placed k h l =
-      let x : Key = pathOf m k in
-      let u = upper-node k h l in
-      let e : x ≡ upper x ++ (lastByte x ∷ []) = upper-last x (u .longer) in
-      let d = children-node m c (nodeOf m (upper x)) (nodeOf-node m (upper x) (u .inside)) in
-      let b = child-label m c (upper x) (lastByte x) (u .inside) (subst (λ (y : Key). SomeBegins y m) e (u .begins)) d in
-      let number : k ≡ d .first + b .place = sym (nodeOf-pathOf m (c .rising) k h) ∙ ap (nodeOf m) e ∙ b .number in
-      let among : b .place < length (childrenIn m (upper x)) = subst (λ (y : Key). b .place < length (childrenIn m y)) (u .back) (b .among) in
-      record {
-        kids = d;
-        place = b .place;
-        among = among;
-        number = number;
-        own = ap (pathOf m) number ∙ d .paths (b .place) (b .among) ∙ ap (λ (y : Key). getD (childrenIn m y) (b .place) []) (u .back);
       }
 
 -- ---- the climb
@@ -232,104 +186,3 @@ module _ (m : Map) (c : Catalogue m) (top node at : ℕ) (top-inside : IsNode m 
       go : Dec (at ≡ top) → PrefixOf (pathOf m top) (pathOf m at) → eqb at top ≡ true
       go (yes e) b = eq-eqb at top e
       go (no d) b = absurd (omega (arith, n, pathOf-longer m (c .rising) top at top-inside (ascending .inside) (begins-later d b)))
-
--- ---- on the image
-
-module _ (i : Image) (h : MapImage i) where
-  abbrev m : Map
-  m = imageMap i
-
-  pub parent-there : (k : ℕ) → IsNode m k → 2 ≤ k → parentOf (bit (i .words)) (bitsLength i) k ≡ Node (nodeOf m (upper (pathOf m k)))
-  parent-there k n l =
-      let x : Key = pathOf m k in
-      let u = upper-node m (h .catalogue) k n l in
-      let e : x ≡ upper x ++ (lastByte x ∷ []) = upper-last x (u .longer) in
-      let own : nodeOf m (upper x ++ (lastByte x ∷ [])) ≡ k = ap (nodeOf m) (sym e) ∙ nodeOf-pathOf m (h .catalogue .rising) k n in
-      rw (bits-are i h, bitsLength-is i h)
-      (ap (parentOf (mapBits m) (mapLength m)) (sym own)
-      ∙ parent-node m (h .catalogue) (upper x) (lastByte x) (u .inside) (subst (λ (y : Key). SomeBegins y m) e (u .begins)))
-
-  -- every node but the root has its one
-  pub parent-always : (k : ℕ) → IsNode m k → 2 ≤ k → ¬ (parentOf (bit (i .words)) (bitsLength i) k ≡ NoOne)
-  parent-always k n l e = let there = parent-there k n l in let z : _≡_ {A = ℕ} 0 1 = cc in omega arith
-
-  -- and every node its zero
-  pub children-always : (k : ℕ) → IsNode m k → ¬ (childrenOf (bit (i .words)) (bitsLength i) k ≡ NoNode)
-  children-always k n e =
-      let there = run-node i h k n (children-node m (h .catalogue) k n) in
-      let z : _≡_ {A = ℕ} 0 1 = cc in
-      omega arith
-
-  module _ (k : ℕ) (n : IsNode m k) (first count : ℕ) (run : childrenOf (bit (i .words)) (bitsLength i) k ≡ Run first count) where
-    kids : ChildrenOf m (h .catalogue) k
-    kids = children-node m (h .catalogue) k n
-
-    count-is : count ≡ length (childrenIn m (pathOf m k))
-    unfolding degree
-    count-is = let e = run-node i h k n kids in cc
-
-    first-is : first ≡ kids .first
-    first-is = let e = run-node i h k n kids in cc
-
-    pub child-first : 0 < count → IsNode m first × NextIn (childrenIn m (pathOf m k)) (pathOf m k) (pathOf m first)
-    unfolding degree
-    child-first p =
-        let some : 0 < length (childrenIn m (pathOf m k)) = omega (arith, count-is) in
-        let at : first ≡ kids .first + 0 = omega (arith, first-is) in
-        (rw at (kids .inside 0 some), rw (at, kids .paths 0 some) (nextIn-first m (h .catalogue .rising) (pathOf m k) some))
-
-    pub child-none : count ≡ 0 → LastIn (childrenIn m (pathOf m k)) (pathOf m k)
-    child-none e = lastIn-none m (pathOf m k) (sym count-is ∙ e)
-
-  -- beyond the sequence every bit is 0
-  bits-end : (p : ℕ) → bitsLength i ≤ p → bit (i .words) p ≡ 0
-  unfolding imageBits
-  bits-end p b =
-      let inside : length (imageBits m) ≤ p = omega (arith, length-imageBits m (h .catalogue), bitsLength-is i h) in
-      rw (bits-are i h) (bit-pack (imageBits m) (sequence-small (map (degree m) ([] ∷ prefixes m))) p ∙ List·getD-eq-default (imageBits m) 0 inside)
-
-  module _ (k : ℕ) (n : IsNode m k) (l : 2 ≤ k) where
-    spot : Placed m (h .catalogue) k
-    spot = placed m (h .catalogue) k n l
-
-    -- the bit behind the node's own one
-    behind : (suc (spot .place) < length (childrenIn m (upper (pathOf m k)))) ↔ (bit (i .words) (nodeOf m (upper (pathOf m k)) + k) ≡ 1)
-    unfolding degree
-    behind =
-        let s = spot in
-        let v = upper-node m (h .catalogue) k n l in
-        let u : ℕ = nodeOf m (upper (pathOf m k)) in
-        let b = bit (i .words) in
-        let size : length (childrenIn m (pathOf m u)) ≡ length (childrenIn m (upper (pathOf m k))) = ap (λ (y : Key). length (childrenIn m y)) (v .back) in
-        let run = run-node i h u (nodeOf-node m (upper (pathOf m k)) (v .inside)) (s .kids) in
-        let iff = sibling-behind b (bit-small (i .words)) (bitsLength i) u (s .kids .first) (length (childrenIn m (pathOf m u))) k run (omega (arith, s .number)) (omega (arith, s .number, s .among, size)) in (
-          λ p. iff .0 (omega (arith, p, s .number, size)) .1,
-          λ p.
-              let inside : u + k < bitsLength i = lt-of-not-le (λ q. omega (arith, p, bits-end (u + k) q)) in
-              omega (arith, iff .1 (inside, p), s .number, size),
-        )
-
-    pub sibling-there : bit (i .words) (nodeOf m (upper (pathOf m k)) + k) ≡ 1
-        → IsNode m (k + 1) × NextIn (childrenIn m (upper (pathOf m k))) (pathOf m k) (pathOf m (k + 1))
-    unfolding degree
-    sibling-there p =
-        let s = spot in
-        let v = upper-node m (h .catalogue) k n l in
-        let x : Key = upper (pathOf m k) in
-        let j : ℕ = suc (s .place) in
-        let room : j < length (childrenIn m x) = behind .1 p in
-        let room-of : j < degree m (pathOf m (nodeOf m x)) = subst (λ (y : Key). j < length (childrenIn m y)) (sym (v .back)) room in
-        let at : k + 1 ≡ s .kids .first + j = omega (arith, s .number) in
-        let path : pathOf m (k + 1) ≡ getD (childrenIn m x) j [] =
-        ap (pathOf m) at ∙ s .kids .paths j room-of ∙ ap (λ (y : Key). getD (childrenIn m y) j []) (v .back) in (
-          rw at (s .kids .inside j room-of),
-          subst (λ (y : Key). NextIn (childrenIn m x) y (pathOf m (k + 1))) (sym (s .own))
-              (rw path (nextIn-index (childrenIn m x) (childrenIn-ordered m (h .catalogue .rising) x) (s .place) room)),
-        )
-
-    pub sibling-none : ¬ (bit (i .words) (nodeOf m (upper (pathOf m k)) + k) ≡ 1) → LastIn (childrenIn m (upper (pathOf m k))) (pathOf m k)
-    sibling-none p =
-        let s = spot in
-        let x : Key = upper (pathOf m k) in
-        let full : suc (s .place) ≡ length (childrenIn m x) = omega (arith, s .among, lt-of-not-le (λ q. p (behind .0 q))) in
-        subst (LastIn (childrenIn m x)) (sym (s .own)) (lastIn-index (childrenIn m x) (childrenIn-ordered m (h .catalogue .rising) x) (s .place) full)

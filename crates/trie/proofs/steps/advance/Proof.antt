@@ -23,18 +23,19 @@ climb-requires : tie.Need-climb-requires
 climb-requires c κs =
     let s = c .before .before .before .before .before .before in
     let a = s .args in
-    let m = imageMap (lent (a .labels .now) (a .values .now) (a .words .now)) in
-    let x = pathOf m (a .node) in
-    (s .pre .0, (s .pre .1, subst (Landed m (childrenIn m x) x) (c .enum-told .given .1) (c .before .before .first-child .ensures)))
+    let i = lent (a .labels .now) (a .values .now) (a .words .now) in
+    let x = pathOf (imageMap i) (a .at .node) in
+    (s .pre .0, (s .pre .1, subst (Landed i (childrenIn (imageMap i) x) x) (c .enum-told .given .1) (c .before .before .first-child .ensures)))
 
 returns : tie.Need-returns
 returns c =
     let s = c .before .before .before .before .before .before .before in
     let a = s .args in
-    let m = imageMap (lent (a .labels .now) (a .values .now) (a .words .now)) in
-    let x = pathOf m (a .node) in
-    let landed = subst (Landed m (childrenIn m x) x) (c .before .child .given .1) (c .before .before .before .first-child .ensures) in
-    (landed .0, next-child m (pathOf m (a .top)) x _ (s .pre .1 .begins) (landed .1))
+    let i = lent (a .labels .now) (a .values .now) (a .words .now) in
+    let m = imageMap i in
+    let x = pathOf m (a .at .node) in
+    let landed = subst (Landed i (childrenIn m x) x) (c .before .child .given .1) (c .before .before .before .first-child .ensures) in
+    (landed .0, next-child m (pathOf m (a .top)) x _ (s .pre .1 .1 .begins) (landed .1))
 
 returns-2 : tie.Need-returns-2
 returns-2 c = search needs

@@ -1,56 +1,45 @@
--- `trie::steps::beside` meets its contract: the bit read is the one behind the node's own (`sibling-there`, `sibling-none`). Assumes nothing.
-use mathlib.Core.Path.{sym, ap, _∙_}
-use Prim.Native.Nat.{ℕ, _+_}
+-- `trie::steps::beside` meets its contract: the bit behind the node's own tells (`sibling-there`, `sibling-none`). Assumes nothing.
+use mathlib.Core.Path.{sym, _∙_}
 use native.Mathlib.Omega.{arith}
 use borrow.Author.Needs.{needs}
-use Rattle.keymap.specs.Bits.{bit}
-use Rattle.keymap.specs.Decode.{imageMap}
+use Rattle.keymap.specs.Image.{Image}
 use Rattle.image.specs.Meaning.{lent}
 use Rattle.trie.proofs.Laws.Image.{length-nodes}
-use Rattle.trie.proofs.Laws.Steps.{upper-node, sibling-there, sibling-none}
+use Rattle.trie.proofs.Laws.Perches.{one-at, sibling-there, sibling-none}
 use Rattle.trie.proofs.steps.beside.Statement.{statement}
 use Rattle.trie.proofs.steps.beside.Tie as tie
 
-parent-of-requires : tie.Need-parent-of-requires
-parent-of-requires c κs = search needs
+abbrev imageAt : tie.Start → Image
+imageAt start = lent (start .args .labels .now) (start .args .values .now) (start .args .words .now)
 
-add-bit-at : tie.Need-add-bit-at
-add-bit-at c =
-    let s = c .before .before .before .before in
-    let a = s .args in
-    let i = lent (a .labels .now) (a .values .now) (a .words .now) in
-    let lower = upper-node (imageMap i) (s .pre .0 .catalogue) (a .node) (s .pre .1 .0) (s .pre .1 .1) .lower in
-    omega (arith, c .parent-of .ensures, lower, length-nodes i (s .pre .0), s .pre .0 .few, s .pre .1)
+add-behind : tie.Need-add-behind
+add-behind c =
+    let start = c .before .before .before .before in
+    omega (arith, one-at (imageAt start) (start .pre .0) (start .args .at) (start .pre .1 .0) .within, start .pre .0 .few)
 
 bit-at-requires : tie.Need-bit-at-requires
 bit-at-requires c κs = search needs
 
-add-t10 : tie.Need-add-t10
-add-t10 c =
-    let s = c .before .before .before .before .before .before in
-    let a = s .args in
-    omega (arith, length-nodes (lent (a .labels .now) (a .values .now) (a .words .now)) (s .pre .0), s .pre .0 .few, s .pre .1)
+add-t9 : tie.Need-add-t9
+add-t9 c =
+    let start = c .before .before .before .before .before .before .before in
+    omega (arith, start .pre .1 .0 .inside, length-nodes (imageAt start) (start .pre .0), start .pre .0 .few)
+
+parent-of-requires : tie.Need-parent-of-requires
+parent-of-requires c κs = search needs
 
 returns : tie.Need-returns
 returns c =
-    let s = c .before .before .before .before .before .before in
-    let a = s .args in
-    let up = c .before .before .parent-of .ensures in
-    let read = c .before .bit-at .ensures in
-    sibling-there (lent (a .labels .now) (a .values .now) (a .words .now)) (s .pre .0) (a .node) (s .pre .1 .0) (s .pre .1 .1)
-    (ap (λ (u : ℕ). bit (a .words .now) (u + a .node)) (sym up) ∙ sym read ∙ c .if1 .taken)
+    let start = c .before .before .before .before .before .before .before in
+    sibling-there (imageAt start) (start .pre .0) (start .args .at) (start .pre .1 .0) (start .pre .1 .1) (sym (c .before .before .bit-at .ensures) ∙ c .before .if1 .taken)
 
 returns-2 : tie.Need-returns-2
 returns-2 c =
-    let s = c .before .before .before .before .before .before in
-    let a = s .args in
-    let up = c .before .before .parent-of .ensures in
-    let read = c .before .bit-at .ensures in (
-      up,
-      sibling-none (lent (a .labels .now) (a .values .now) (a .words .now)) (s .pre .0) (a .node) (s .pre .1 .0) (s .pre .1 .1)
-          (λ e. c .if1 .left (read ∙ ap (λ (u : ℕ). bit (a .words .now) (u + a .node)) up ∙ e)),
+    let start = c .before .before .before .before .before .before .before in (
+      c .parent-of .ensures,
+      sibling-none (imageAt start) (start .pre .0) (start .args .at) (start .pre .1 .0) (start .pre .1 .1) (λ e. c .before .if1 .left (c .before .before .bit-at .ensures ∙ e)),
     )
 
 pub beside-spec : {M : Type 1} → statement M
 beside-spec =
-    tie.close (tie.spec parent-of-requires add-bit-at bit-at-requires add-t10 returns returns-2)
+    tie.close (tie.spec add-behind bit-at-requires add-t9 parent-of-requires returns returns-2)

@@ -10,6 +10,7 @@ ghost use Rattle.image.specs.Meaning.{lent, MapImage};
 ghost use Rattle.trie.specs.Spelling.{spelledTo};
 use crate::steps::parent_of;
 use crate::steps::perch_at;
+use image::MARK;
 
 // How many labels lead to a node.
 pub fn depth(labels: &[u16], values: &[u32], words: &[u64], node: usize) -> usize
@@ -29,7 +30,7 @@ pub fn depth(labels: &[u16], values: &[u32], words: &[u64], node: usize) -> usiz
 fn label_in(entry: u16) -> u8
     ensures { λ r. ⌜ r ≡ labelIn entry ⌝ }
 {
-    (entry % 256) as u8
+    (entry % MARK) as u8
 }
 
 // Writes the last `count` labels of a node's path to the front of a buffer; the bytes past them stay.

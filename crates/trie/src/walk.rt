@@ -13,6 +13,7 @@ ghost use Rattle.keymap.specs.Decode.{imageMap};
 ghost use Rattle.louds.specs.Nodes.{orEnd};
 ghost use Rattle.image.specs.Meaning.{lent, MapImage};
 ghost use Rattle.trie.specs.Walk.{bitsLength, heldValue, Standing, standAt, kidsOf, siblingBy, reached};
+use image::MARK;
 use louds::Spot;
 use louds::zero_at;
 use louds::zero_from;
@@ -133,7 +134,7 @@ pub fn kid_at(
 fn same_label(entry: u16, label: u8) -> bool
     ensures { λ r. ⌜ r ≡ eqb (labelIn entry) label ⌝ }
 {
-    entry % 256 == label as u16
+    entry % MARK == label as u16
 }
 
 // Which of `count` siblings from node `first` on has a label.
@@ -201,7 +202,7 @@ pub fn value_at(labels: &[u16], values: &[u32], words: &[u64], node: usize) -> H
     if node < 2 {
         return Held::NoValue;
     }
-    if labels[node - 2] < 256 {
+    if labels[node - 2] < MARK {
         return Held::NoValue;
     }
     Held::Value(values[node - 2])

@@ -30,7 +30,7 @@ use Rattle.keymap.proofs.Laws.Queries.{beginning-iff, longer-iff}
 use Rattle.keymap.proofs.Laws.LevelOrder.{image-forest}
 use Rattle.keymap.proofs.Laws.Emitted.{emitted-forestBits}
 use Rattle.keymap.proofs.Laws.Image.{length-imageLabels, imageMap-image}
-use Rattle.keymap.proofs.Laws.Paths.{nodes-iff, nodeOf-node, pathOf-nodeOf, nodeOf-pathOf, pathOf-in}
+use Rattle.keymap.proofs.Laws.Paths.{isNode-iff, nodes-iff, nodeOf-node, pathOf-nodeOf, nodeOf-pathOf, pathOf-in}
 use Rattle.pool.proofs.Laws.History.{reset-run-within}
 use Rattle.image.specs.History.{poolCalls}
 use Rattle.image.specs.AcceptTest.{imageTest}
@@ -50,7 +50,7 @@ use Rattle.trie.specs.Places.{resumeSays, valueSays, prefixLenSays, prefixSays,
 use Rattle.trie.proofs.Laws.Image.{words-are}
 use Rattle.trie.proofs.Laws.Exact.{exactSays-accepted, isPrefixSays-accepted, setValues-absent, setValue-means-insert, setValue-keeps-image}
 use Rattle.trie.proofs.Laws.CommonPrefixes.{commonSays-accepted}
-use Rattle.trie.proofs.Laws.Cursors.{isNode-iff, setOf-rising, setOf-in, top-node, belongs-at, stepSays-finished}
+use Rattle.trie.proofs.Laws.Cursors.{setOf-rising, setOf-in, top-node, belongs-at, stepSays-finished}
 use Rattle.theorems.specs.Demand2.{AtPath, NoPlace, listedKey, Searches, setInMap, setInImage, setAll, setAllIn, AllSmall, EveryMap, EveryBuild}
 use Rattle.theorems.proofs.Listing.{listing-is}
 use Rattle.theorems.proofs.Demand3.{every-history}

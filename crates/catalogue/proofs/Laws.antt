@@ -1,6 +1,7 @@
 -- The laws of the definitions, and what the program writes. Assumes nothing.
 pub mod Filling
 pub mod Building
+pub mod Count
 pub mod GivenLine
 pub mod Next
 pub mod Listing

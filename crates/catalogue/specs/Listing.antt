@@ -7,6 +7,7 @@
 --     listKey, listLine     and what it leaves of the key's room and of the line's: the line begins with the entry's text
 --     givenSays, givenLine  the same of an entry that a cursor gave last
 --     restOf                the entries that a listing has still to give
+--     WholeIf               what `write_listing` tells
 --     Lists                 a start and calls of `list_next`, each on the cursor and the rooms that the one before it left; `written` is what they write
 -- Assumes nothing.
 use Prim.Native.Nat.{ℕ, zero, suc}
@@ -34,6 +35,7 @@ use Rattle.trie.specs.Prefix.{writtenTo}
 use Rattle.trie.specs.Cursors.{setOf, belongs, onCursor, startSays, nextIn}
 use Rattle.trie.specs.GivenKey.{givenKey, keyOf}
 use Rattle.catalogue.specs.declared.listing.Listed.{Listed}
+use Rattle.catalogue.specs.declared.listing.Wrote.{Wrote}
 
 abbrev pub saidListed : Listed → List ℕ
 saidListed (Listed.Line n next) = 0 ∷ n ∷ saidCursor next
@@ -115,6 +117,11 @@ restIn m set (suc k) = keep (λ (e : Entry). isBelow (pathOf m (suc k)) (e .0)) 
 abbrev pub restOf : Map → Cursor → Map
 restOf m (Open kind top last) = restIn m (setOf m kind (pathOf m top)) last
 restOf m (Finished kind) = []
+
+-- a listing that came to its end has a line for each entry
+abbrev pub WholeIf : Map → Wrote → Type 0
+WholeIf m (Wrote.Lines n) = n ≡ length m
+WholeIf m Wrote.Stopped = Unit {0}
 
 -- the cursor to go on with: nothing follows the end or a refusal
 abbrev pub cursorAfter : Listed → Cursor → Cursor

@@ -1,8 +1,9 @@
 // The listing of a pool's map, line by line.
 ghost use mathlib.Core.Path.{_≡_};
+ghost use Rattle.keymap.specs.Decode.{imageMap};
 ghost use Rattle.image.specs.Meaning.{lent, MapImage};
 ghost use Rattle.trie.specs.GivenKey.{keyOut};
-ghost use Rattle.catalogue.specs.Listing.{saidListed, listSays, listKey, listLine, givenSays, givenLine};
+ghost use Rattle.catalogue.specs.Listing.{saidListed, listSays, listKey, listLine, givenSays, givenLine, WholeIf};
 use crate::printing::say;
 use image::answers::Built;
 use lines::answers::Written;
@@ -22,6 +23,14 @@ pub enum Listed {
     BadPlace,
     // The key or its line is longer than its room.
     KeyRoom,
+}
+
+// Of a whole listing.
+pub enum Wrote {
+    // It came to its end, after so many lines.
+    Lines(usize),
+    // A write failed, or a call refused.
+    Stopped,
 }
 
 // The line of the next entry of a listing.
@@ -78,22 +87,32 @@ fn write_next(
 }
 
 // Writes the listing of an image, up to a write that fails.
-fn write_listing(labels: &[u16], values: &[u32], words: &[u64], key: &mut [u8], line: &mut [u8])
+fn write_listing(
+    labels: &[u16],
+    values: &[u32],
+    words: &[u64],
+    key: &mut [u8],
+    line: &mut [u8],
+) -> Wrote
     requires { ⌜ MapImage (lent (now labels) (now values) (now words)) ⌝ }
+    ensures { λ r. ⌜ WholeIf (imageMap (lent (now (labels .entry)) (now (values .entry)) (now (words .entry)))) r ⌝ }
 {
     let Started::At(start) = trie::predictive_search(labels, values, words, b"") else {
-        return;
+        return Wrote::Stopped;
     };
     let mut cursor = start;
+    let mut count = 0;
     loop {
         match list_next(labels, values, words, cursor, key, line) {
             Listed::Line { length, next } => {
                 if !say(&line[..length]) {
-                    return;
+                    return Wrote::Stopped;
                 }
                 cursor = next;
+                count += 1;
             }
-            _ => return,
+            Listed::End => return Wrote::Lines(count),
+            _ => return Wrote::Stopped,
         }
     }
 }

@@ -1,5 +1,6 @@
 -- A whole listing: from the start on each call writes the first entry of the rest, so that the lines of all calls are the text of the map.
 --
+--     start-rest                 the start of the listing of the empty query stands before all of the map
 --     lists-map                  what is written up to the end is the map's text, and then comes the end
 -- Assumes nothing.
 use mathlib.Core.Path.{_≡_, refl, sym, ap, _∙_}
@@ -19,7 +20,7 @@ use Rattle.keymap.specs.Map.{Entry, Map, Rising}
 use Rattle.keymap.specs.Queries.{keep, nonempty, beginning}
 use Rattle.keymap.specs.Image.{Image}
 use Rattle.keymap.specs.Decode.{imageMap}
-use Rattle.keymap.specs.Paths.{nodes, IsNode, pathOf, nodeOf}
+use Rattle.keymap.specs.Paths.{nodes, pathOf, nodeOf}
 use Rattle.keymap.proofs.Laws.Begins.{prefix-empty}
 use Rattle.keymap.proofs.Laws.Queries.{keep-all}
 use Rattle.keymap.proofs.Laws.Paths.{pathOf-nodeOf, nodeOf-node, nodes-iff}
@@ -34,7 +35,8 @@ use Rattle.trie.specs.declared.Cursor.{Cursor}
 use Rattle.trie.specs.declared.Cursor.the-variants.{Open, Finished}
 use Rattle.trie.specs.declared.Stepped.the-variants as stepped
 use Rattle.trie.specs.declared.Spelled.the-variants as spelled
-use Rattle.trie.specs.Answers.{saidCursor}
+use Rattle.trie.specs.declared.Started.the-variants.{At}
+use Rattle.trie.specs.Answers.{saidCursor, saidStarted}
 use Rattle.trie.specs.Prefix.{writtenTo}
 use Rattle.trie.specs.Cursors.{setOf, belongs, startSays}
 use Rattle.trie.specs.GivenKey.{givenKey}
@@ -86,6 +88,46 @@ beginning-all m = keep-all (λ (e : Entry). beginsWith [] (e .0)) m (λ e i. pre
 finished-belongs : (m : Map) (kind : Kind) → belongs m (Finished kind) ≡ true
 unfolding belongs
 finished-belongs m kind = refl
+
+-- a cursor that stands before all of the map
+pub record Starts (i : Image) (c : Cursor) : Type 0 where
+  pub belonging : belongs (imageMap i) c ≡ true
+  pub predictive : kindOf c ≡ kinds.Predictive
+  pub rest-is : restOf (imageMap i) c ≡ imageMap i
+
+pub start-rest : (i : Image) → MapImage i → (c : Cursor) → saidStarted (At c) ≡ startSays kinds.Predictive i [] → Starts i c
+start-rest i image c h = go m refl
+  where
+    m : Map
+    m = imageMap i
+
+    all : setOf m kinds.Predictive [] ≡ m
+    all = beginning-all m
+
+    first : Map → Cursor
+    first n = cond (nonempty n) (Open kinds.Predictive (nodeOf m []) 0) (Finished kinds.Predictive)
+
+    said : (n : Map) → m ≡ n → 0 ∷ saidCursor c ≡ 0 ∷ saidCursor (first n)
+    said n e =
+        h ∙ startSays-accepted i kinds.Predictive [] (mapImage-tested i image) ∙ ap (λ (x : Map). 0 ∷ saidCursor (first x)) (all ∙ e)
+
+    at : (d : Cursor) → 0 ∷ saidCursor c ≡ 0 ∷ saidCursor d → c ≡ d
+    at d q = let cursors : saidCursor c ≡ saidCursor d = cc in saidCursor-one c d cursors
+
+    root : In [] (nodes m)
+    root = nodes-iff m [] .1 (inl refl)
+
+    go : (n : Map) → m ≡ n → Starts i c
+    go [] e =
+        let is : c ≡ Finished kinds.Predictive = at (Finished kinds.Predictive) (said [] e) in
+        record { belonging = ap (belongs m) is ∙ finished-belongs m kinds.Predictive; predictive = ap kindOf is; rest-is = ap (restOf m) is ∙ sym e }
+    go (d ∷ n) e =
+        let is : c ≡ Open kinds.Predictive (nodeOf m []) 0 = at (Open kinds.Predictive (nodeOf m []) 0) (said (d ∷ n) e) in
+        record {
+          belonging = ap (belongs m) is ∙ belongs-fresh m (image .catalogue .rising) kinds.Predictive (nodeOf m []) (nodeOf-node m [] root);
+          predictive = ap kindOf is;
+          rest-is = ap (restOf m) is ∙ ap (λ (q : Key). setOf m kinds.Predictive q) (pathOf-nodeOf m [] root) ∙ all;
+        }
 
 module _ (i : Image) (image : MapImage i) (cursor : ℕ → Cursor) (key line : ℕ → List ℕ) (answer : ℕ → Listed) (lists : Lists i cursor key line answer)
     (fits : (e : Entry) → In e (imageMap i) → (length (e .0) ≤ length (key 0)) × (length (tabText e) ≤ length (line 0))) where
@@ -162,48 +204,9 @@ module _ (i : Image) (image : MapImage i) (cursor : ℕ → Cursor) (key line : 
 
   -- the start stands before all of the map
   starts : Stands 0 m
-  starts = go m refl
-    where
-      all : setOf m kinds.Predictive [] ≡ m
-      all = beginning-all m
-
-      said : 0 ∷ saidCursor (cursor 0) ≡ 0 ∷ saidCursor (cond (nonempty m) (Open kinds.Predictive (nodeOf m []) 0) (Finished kinds.Predictive))
-      said =
-          lists .starts ∙ startSays-accepted i kinds.Predictive [] tested
-          ∙ ap (λ (n : Map). 0 ∷ saidCursor (cond (nonempty n) (Open kinds.Predictive (nodeOf m []) 0) (Finished kinds.Predictive))) all
-
-      at : (d : Cursor) → 0 ∷ saidCursor (cursor 0) ≡ 0 ∷ saidCursor d → cursor 0 ≡ d
-      at d h = let cursors : saidCursor (cursor 0) ≡ saidCursor d = cc in saidCursor-one (cursor 0) d cursors
-
-      root : IsNode m (nodeOf m [])
-      root = nodeOf-node m [] (nodes-iff m [] .1 (inl refl))
-
-      path : pathOf m (nodeOf m []) ≡ []
-      path = pathOf-nodeOf m [] (nodes-iff m [] .1 (inl refl))
-
-      finished : (n : Map) → m ≡ n → n ≡ [] → cursor 0 ≡ Finished kinds.Predictive → Stands 0 m
-      finished n e z c =
-          record {
-            belonging = ap (belongs m) c ∙ finished-belongs m kinds.Predictive;
-            predictive = ap kindOf c;
-            rest-is = ap (restOf m) c ∙ sym (e ∙ z);
-            key-room = refl;
-            line-room = refl;
-          }
-
-      opened : cursor 0 ≡ Open kinds.Predictive (nodeOf m []) 0 → Stands 0 m
-      opened c =
-          record {
-            belonging = ap (belongs m) c ∙ belongs-fresh m (image .catalogue .rising) kinds.Predictive (nodeOf m []) root;
-            predictive = ap kindOf c;
-            rest-is = ap (restOf m) c ∙ ap (λ (q : Key). setOf m kinds.Predictive q) path ∙ all;
-            key-room = refl;
-            line-room = refl;
-          }
-
-      go : (n : Map) → m ≡ n → Stands 0 m
-      go [] e = finished [] e refl (at (Finished kinds.Predictive) (said ∙ ap (λ (n : Map). 0 ∷ saidCursor (cond (nonempty n) (Open kinds.Predictive (nodeOf m []) 0) (Finished kinds.Predictive))) e))
-      go (d ∷ n) e = opened (at (Open kinds.Predictive (nodeOf m []) 0) (said ∙ ap (λ (n : Map). 0 ∷ saidCursor (cond (nonempty n) (Open kinds.Predictive (nodeOf m []) 0) (Finished kinds.Predictive))) e))
+  starts =
+      let s = start-rest i image (cursor 0) (lists .starts) in
+      record { belonging = s .belonging; predictive = s .predictive; rest-is = s .rest-is; key-room = refl; line-room = refl }
 
   pub lists-map : (written answer line (length m) 0 ≡ mapText m) × (answer (length m) ≡ Listed.End)
   lists-map = let (texts, last) = gives m 0 starts in let index : length m ≡ length m + 0 = omega arith in (texts, ap answer index ∙ last)

@@ -4,6 +4,7 @@
 --     fill-end, fill-goes, fill-stops  the equations of `fillFrom` and `leftFrom`, by what one line says
 --     fill-whole                       the lines of a whole text, and `file-long`, `file-short`: a text by its length
 --     fill-means                       lines accepted whole leave a sound pool of the same length that holds the inserts of their entries
+--     reset-fills                      a text accepted whole after a reset leaves the map of its entries, and its image is the image of that map
 --     fill-accepts                     lines that are all entries of nonempty keys, for which there is room, are accepted whole
 --     lines-bytes, key-bytes           the lines of bytes are of bytes, and so are their keys
 -- Assumes nothing.
@@ -24,7 +25,8 @@ use Rattle.keymap.specs.Refusals.{Refusal, refusalNumber}
 use Rattle.keymap.proofs.Laws.Begins.{bytes-prefix, prefix-leading}
 use Rattle.keymap.proofs.Laws.Map.{insert-rising}
 use Rattle.keymap.proofs.Laws.Prefixes.{prefixes-insert}
-use Rattle.records.specs.Words.{Pool, capacity}
+use Rattle.keymap.specs.Image.{image}
+use Rattle.records.specs.Words.{Pool, recordWords, capacity}
 use Rattle.records.specs.Sound.{Sound}
 use Rattle.records.specs.Meaning.{poolMap}
 use Rattle.records.proofs.Laws.Meaning.{map-rising}
@@ -32,9 +34,12 @@ use Rattle.pool.specs.Answers.{accepted}
 use Rattle.pool.specs.Reset.{resetPool}
 use Rattle.pool.specs.Push.{pushSays, pushPool}
 use Rattle.pool.specs.History.{Call}
+use Rattle.pool.proofs.Laws.Reset.{reset-sound}
 use Rattle.pool.proofs.Laws.Push.{push-keeps, length-push}
-use Rattle.pool.proofs.Laws.Meaning.{push-means-insert}
+use Rattle.pool.proofs.Laws.Meaning.{reset-means-empty, push-means-insert}
 use Rattle.pool.proofs.Laws.History.{call-says, prefixes-insertAll, fits-says}
+use Rattle.image.specs.LevelOrder.{poolImage}
+use Rattle.image.proofs.Laws.PoolImage.{image-pool}
 use Rattle.lines.specs.Bytes.{tab, lineFeed, stretch}
 use Rattle.lines.specs.TabLine.{keyPart, tabEntry, entrySays, entryKey, tabLineSays, tabLineKey}
 use Rattle.lines.specs.Text.{inFirst, linesOf, entryLines}
@@ -158,6 +163,21 @@ fill-means (l ∷ ls) n p s b h = go (tabEntry l) refl (λ q t. fill-means ls (s
     go : (o : Option Entry) → tabEntry l ≡ o → ((q : Pool) → Sound q → fillFrom (suc (suc n)) q ls ≡ 0 ∷ [] → Filled q ls) → Filled p (l ∷ ls)
     go none f ih = absurd (let k : 9 ∷ suc n ∷ [] ≡ 0 ∷ [] = rw f at h in let z : _≡_ {A = ℕ} 9 0 = cc in omega arith)
     go (some e) f ih = pushed e f ih (accepted (pushSays p (e .0))) refl
+
+-- the pool holds a map, and its image is that map's
+pub record Holding (p : Pool) (m : Map) : Type 0 where
+  pub sound : Sound p
+  pub holds : poolMap p ≡ m
+  pub shows : poolImage p ≡ image m
+
+-- a text accepted whole after a reset
+pub reset-fills : (p : Pool) → recordWords ≤ length p → (text : List ℕ) → Bytes text → fillSays (resetPool p) (entryLines text) ≡ 0 ∷ []
+    → Holding (fillPool (resetPool p) (entryLines text)) (insertAll (entriesIn (entryLines text)) [])
+unfolding fillSays fillPool
+reset-fills p h text b said =
+    let f = fill-means (entryLines text) 0 (resetPool p) (reset-sound p h) (lines-bytes text b) said in
+    let m = f .holds ∙ ap (insertAll (entriesIn (entryLines text))) (reset-means-empty p h) in
+    record { sound = f .sound; holds = m; shows = image-pool (leftFrom (resetPool p) (entryLines text)) (f .sound) ∙ ap image m }
 
 -- ---- and when they are accepted whole
 

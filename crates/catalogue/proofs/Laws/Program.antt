@@ -22,8 +22,6 @@ use Rattle.keymap.proofs.Laws.Map.{insert-catalogue, proper-in}
 use Rattle.keymap.proofs.Laws.Image.{imageMap-image}
 use Rattle.keymap.proofs.Laws.Paths.{nodes-iff, nodeOf-node, pathOf-nodeOf}
 use Rattle.records.specs.Words.{Pool, recordWords, capacity}
-use Rattle.records.specs.Sound.{Sound}
-use Rattle.records.specs.Meaning.{poolMap}
 use Rattle.pool.specs.Reset.{resetPool}
 use Rattle.pool.proofs.Laws.Reset.{reset-sound, length-reset}
 use Rattle.pool.proofs.Laws.Meaning.{reset-means-empty}
@@ -36,10 +34,10 @@ use Rattle.lines.specs.Text.{entryLines}
 use Rattle.lines.specs.Writing.{tabText, mapText}
 use Rattle.lines.proofs.Laws.Writing.{tabEntry-plain, length-tabText-most}
 use Rattle.trie.proofs.Laws.Spelling.{path-short}
-use Rattle.catalogue.specs.Filling.{fileLimit, fillFrom, leftFrom, fillSays, fillPool, fileSays, filePool, entriesIn, AllEntries}
+use Rattle.catalogue.specs.Filling.{fileLimit, fillSays, fileSays, filePool, entriesIn, AllEntries}
 use Rattle.catalogue.specs.Listing.{Lists, written}
 use Rattle.catalogue.specs.Program.{programCapacity, poolLength, wordsLength, lineLength, Writes}
-use Rattle.catalogue.proofs.Laws.Filling.{AllBytes, Filled, key-bytes, lines-bytes, file-short, fill-means, fill-accepts}
+use Rattle.catalogue.proofs.Laws.Filling.{AllBytes, Holding, key-bytes, lines-bytes, file-short, reset-fills, fill-accepts}
 use Rattle.catalogue.proofs.Laws.Building.{map-image, built-image}
 use Rattle.catalogue.proofs.Laws.WholeListing.{lists-map}
 
@@ -73,33 +71,21 @@ module _ (text : List ℕ) (bytes : Bytes text) (short : length text ≤ fileLim
   catalogue : Catalogue m
   catalogue = entries-catalogue (entryLines text) [] empty-catalogue all-bytes entries
 
-  empty : poolMap (resetPool p) ≡ []
-  empty = reset-means-empty p rooted
-
   room : capacity (resetPool p) ≡ programCapacity
   room = omega (arith, length-reset p, size)
 
-  said : fillFrom 1 (resetPool p) (entryLines text) ≡ 0 ∷ []
+  said : fillSays (resetPool p) (entryLines text) ≡ 0 ∷ []
+  unfolding fillSays
   said =
       fill-accepts (entryLines text) 1 (resetPool p) (reset-sound p rooted) all-bytes entries
-      (subst (λ (n : Map). length (prefixes (insertAll (entriesIn (entryLines text)) n)) ≤ capacity (resetPool p)) (sym empty) (omega (arith, room, few)))
-
-  filled : Filled (resetPool p) (entryLines text)
-  filled = fill-means (entryLines text) 0 (resetPool p) (reset-sound p rooted) all-bytes said
-
-  left-is : leftFrom (resetPool p) (entryLines text) ≡ filePool p text
-  unfolding fillPool
-  left-is = file-short p text short .1
+      (subst (λ (n : Map). length (prefixes (insertAll (entriesIn (entryLines text)) n)) ≤ capacity (resetPool p)) (sym (reset-means-empty p rooted))
+      (omega (arith, room, few)))
 
   says : fileSays p text ≡ 0 ∷ []
-  unfolding fillSays
   says = sym (file-short p text short .0) ∙ said
 
-  holds : poolMap (filePool p text) ≡ m
-  holds = ap poolMap (sym left-is) ∙ filled .holds ∙ ap (insertAll (entriesIn (entryLines text))) empty
-
-  sound : Sound (filePool p text)
-  sound = subst Sound left-is (filled .sound)
+  left : Holding (filePool p text) m
+  left = subst (λ (q : Pool). Holding q m) (file-short p text short .1) (reset-fills p rooted text bytes said)
 
   module _ (ls vs ws qs : List ℕ) (ls-long : length ls ≡ programCapacity) (vs-long : length vs ≡ programCapacity) (ws-long : length ws ≡ wordsLength) (qs-long : length qs ≡ programCapacity) where
     abbrev n : ℕ
@@ -109,13 +95,13 @@ module _ (text : List ℕ) (bytes : Bytes text) (short : length text ≤ fileLim
     unfolding fitSays buffersFit
     built =
         sym
-        (build-says (filePool p text) sound ls vs ws qs
-        ∙ ap (λ (x : Map). fitSays (length (prefixes x)) (length ls) (length vs) (length ws) (length qs)) holds
+        (build-says (filePool p text) (left .sound) ls vs ws qs
+        ∙ ap (λ (x : Map). fitSays (length (prefixes x)) (length ls) (length vs) (length ws) (length qs)) (left .holds)
         ∙ rw (le-leb n (length ls) (omega (arith, few, ls-long)), le-leb n (length vs) (omega (arith, few, vs-long)), le-leb ((2 * n + 3 + 63) / 64) (length ws) (omega (arith, few, ws-long)), le-leb n (length qs) (omega (arith, few, qs-long))))
 
     shown : lent (take n (buildLabels (filePool p text) ls vs ws qs)) (take n (buildValues (filePool p text) ls vs ws qs)) (take ((2 * n + 66) / 64) (buildWords (filePool p text) ls vs ws qs)) ≡ image m
     shown =
-        built-image (filePool p text) ls vs ws qs n (λ s. subst Catalogue (sym holds) catalogue) built .shows ∙ ap image holds
+        built-image (filePool p text) ls vs ws qs n (λ s. subst Catalogue (sym (left .holds)) catalogue) built .shows ∙ ap image (left .holds)
 
     whole : MapImage (image m)
     whole = map-image m catalogue (omega (arith, few))

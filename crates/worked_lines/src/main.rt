@@ -10,6 +10,7 @@ mod searches;
 mod state;
 mod text;
 
+ghost use Rattle.io.specs.Counts.{Counts};
 use cursors::keep_cursor;
 use cursors::kept_cursor;
 use memory::of_labels;
@@ -23,8 +24,8 @@ use state::WORDS;
 use state::keep;
 use state::kept;
 
-// The longest list, and the longest bytes of a case.
-const LIST_BYTES: usize = 327680;
+// The longest that both lists are, and the longest bytes of a case.
+const LIST_BYTES: usize = 655360;
 
 const CASE_BYTES: usize = 1024;
 
@@ -200,24 +201,27 @@ fn replay(
     }
 }
 
-fn replay_file(
-    name: &[u8],
-    room: &mut [u8],
-    pool: &mut [u32],
-    labels: &mut [u16],
-    values: &mut [u32],
-    words: &mut [u64],
-    scratch: &mut [u32],
-    state: &mut [u32],
-) {
+// A list into the front of the room, and how long it is.
+fn read_list(name: &[u8], room: &mut [u8]) -> usize
+    ensures { λ r. ⌜ Counts r (now (room .exit)) ⌝ }
+{
     let fd = os::open_read(name);
     if fd < 0 {
         os::fail(name);
-        return;
+        return 0;
     }
     let n = io::read_full(fd, room);
     libc::close(fd);
-    replay(&room[..n], pool, labels, values, words, scratch, state);
+    n
+}
+
+// Both lists, one behind the other.
+fn read_lists(room: &mut [u8]) -> usize
+    ensures { λ r. ⌜ Counts r (now (room .exit)) ⌝ }
+{
+    let first = read_list(b"rust_cases", room);
+    let second = read_list(b"document_cases", &mut room[first..]);
+    first + second
 }
 
 fn main() {
@@ -228,19 +232,9 @@ fn main() {
     let mut words = [0u64; 130];
     let mut scratch = [0u32; 4096];
     let mut state = [0u32; state::SIZE];
-    replay_file(
-        b"rust_cases",
-        &mut room,
-        &mut pool,
-        &mut labels,
-        &mut values,
-        &mut words,
-        &mut scratch,
-        &mut state,
-    );
-    replay_file(
-        b"document_cases",
-        &mut room,
+    let n = read_lists(&mut room);
+    replay(
+        &room[..n],
         &mut pool,
         &mut labels,
         &mut values,

@@ -593,7 +593,7 @@ def lengths_of_pools(book):
 
 
 def deepest_chain(book):
-    """The searches on the image of the one key of 4,096 bytes. A walk down or up all of it is slow, so there are few."""
+    """The searches on the image of the one key of 4,096 bytes. A walk down or up all of it is slow, so these stay near one end."""
     book.is_prefix(b"a" * 50)
     book.common_after(b"a" * 50, 0)
     for place in (0, 4098, LARGEST, 4097):
@@ -603,7 +603,6 @@ def deepest_chain(book):
     book.goto()
     book.stand_at(4096)
     book.goto()
-    book.prefix_into(4096)
     book.cursor_at(0, 4096, 0)
     book.step()
     book.step()

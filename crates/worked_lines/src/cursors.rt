@@ -1,4 +1,5 @@
 // The cases of listings. The cursor is handed in and the one to go on with handed back.
+use crate::memory::LONGEST;
 use crate::memory::of_bytes;
 use crate::printing::number;
 use crate::printing::refused;
@@ -16,8 +17,6 @@ use trie::Cursor;
 use trie::Kind;
 use trie::Started;
 use trie::Stepped;
-
-const LONGEST: usize = 4200;
 
 fn kind_of(n: u32) -> Kind {
     if n == 0 {

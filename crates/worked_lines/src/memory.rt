@@ -5,6 +5,9 @@ use crate::text::four_bytes;
 use crate::text::two_bytes;
 ghost use Rattle.io.specs.Counts.{Counts};
 
+// More than any key has.
+pub const LONGEST: usize = 4200;
+
 // How many of n entries there are.
 pub fn of_bytes(all: &[u8], n: usize) -> usize
     ensures { λ r. ⌜ Counts r (now (all .entry)) ⌝ }

@@ -1,4 +1,5 @@
 // The cases of incremental searches. The place is handed in as its number, and where it is left handed back.
+use crate::memory::LONGEST;
 use crate::memory::of_bytes;
 use crate::printing::number;
 use crate::printing::refused;
@@ -12,8 +13,6 @@ use trie::place::Place;
 use trie::place::Queried;
 use trie::place::Resumed;
 use trie::place::Valued;
-
-const LONGEST: usize = 4200;
 
 fn tell_place(node: u32) {
     text(b" at");

@@ -1,4 +1,5 @@
 // The cases of pools. A list asks for no more words than there are.
+use crate::memory::LONGEST;
 use crate::memory::of_bytes;
 use crate::memory::of_values;
 use crate::memory::read_values;
@@ -13,8 +14,6 @@ use crate::text::byte_at;
 use pool::answers::Cleared;
 use pool::answers::Counted;
 use pool::answers::Pushed;
-
-const LONGEST: usize = 4200;
 
 fn reset(memory: &mut [u32], words: usize) {
     let n = of_values(memory, words);

@@ -1,4 +1,5 @@
 // The cases of the searches with a query, over the image that is lent.
+use crate::memory::LONGEST;
 use crate::memory::of_bytes;
 use crate::printing::bytes;
 use crate::printing::number;
@@ -9,8 +10,6 @@ use trie::Longest;
 use trie::Looked;
 use trie::Prefixed;
 use trie::Spelled;
-
-const LONGEST: usize = 4200;
 
 fn looked(answer: Looked) {
     match answer {

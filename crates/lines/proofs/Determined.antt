@@ -27,8 +27,8 @@ module _ (κs : Lfts 1) where
   tab-line-determined a r₁ r₂ s₁ s₂ p q = said-parsed-one r₁ r₂ (p ∙ sym q)
 
   pub tab-line-key-determined : (a : ArgsD tab_line_key.signature κs) (r₁ r₂ : ResD tab_line_key.signature κs) (s₁ s₂ : AtExit (endedOf 1 tab-line-key-kinds.ps tab-line-key-kinds.r) κs)
-      → tab-line-key-reads.Post κs a r₁ s₁ → tab-line-key-reads.Post κs a r₂ s₂ → now r₁ ≡ now r₂
-  tab-line-key-determined a r₁ r₂ s₁ s₂ p q = p ∙ sym q
+      → tab-line-key-reads.Post κs a r₁ s₁ → tab-line-key-reads.Post κs a r₂ s₂ → (now r₁ ≡ now r₂) × (r₁ .ptr ≡ r₂ .ptr)
+  tab-line-key-determined a r₁ r₂ s₁ s₂ p q = (p .0 ∙ sym (q .0), p .1 ∙ sym (q .1))
 
   pub next-line-determined : (a : ArgsD next_line.signature κs) (r₁ r₂ : ResD next_line.signature κs) (s₁ s₂ : AtExit (endedOf 1 next-line-kinds.ps next-line-kinds.r) κs)
       → next-line-reads.Post κs a r₁ s₁ → next-line-reads.Post κs a r₂ s₂ → r₁ ≡ r₂

@@ -44,7 +44,8 @@ pub fn tab_line(line: &[u8]) -> Parsed
 
 // The key of a line, empty whenever `tab_line` refuses it.
 pub fn tab_line_key(line: &[u8]) -> &[u8]
-    ensures { λ r. ⌜ now r ≡ tabLineKey (now (line .entry)) ⌝ }
+    ensures key { λ r. ⌜ now r ≡ tabLineKey (now (line .entry)) ⌝ }
+    ensures leading { λ r. ⌜ r .ptr ≡ line .entry .ptr ⌝ }
 {
     match tab_line(line) {
         Parsed::Entry { key_len, number: _ } => &line[..key_len],

@@ -1,5 +1,5 @@
--- `lines::tab_line_key` meets its contract: the length that `tab_line` answers is that of the key, which leads the line. Assumes nothing.
-use mathlib.Core.Path.{sym, ap, _∙_}
+-- `lines::tab_line_key` meets its contract: the length that `tab_line` answers is that of the key, which leads the line; a part of no bytes begins there too. Assumes nothing.
+use mathlib.Core.Path.{refl, sym, ap, _∙_}
 use lib.ListN.{length, take}
 use lib.Seq.{length-take-le}
 use borrow.Author.Needs.{needs}
@@ -30,10 +30,11 @@ returns : tie.Need-returns
 returns c =
     let answered = c .before .before .before .before in
     let part = tabLineKey-some _ _ _ (sym (answered .tab-line .ensures) ∙ ap saidParsed (c .before .before .key-len .given .1)) in
-    sym (part .0)
+    (sym (part .0), refl)
 
 returns-2 : tie.Need-returns-2
-returns-2 c = sym (tabLineKey-none _ (sym (c .before .before .before .tab-line .ensures) ∙ ap saidParsed (c .before .enum-told .given .1)))
+returns-2 c =
+    (sym (tabLineKey-none _ (sym (c .before .before .before .tab-line .ensures) ∙ ap saidParsed (c .before .enum-told .given .1))), refl)
 
 pub tab-line-key-spec : {M : Type 1} → statement M
 tab-line-key-spec =

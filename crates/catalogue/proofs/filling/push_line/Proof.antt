@@ -36,7 +36,7 @@ returns c =
     let a = c .before .before .before .before .before .before .before .before .before .before .before .before .args in
     let p = a .pool .now in
     let entry = entry-said (a .line .now) _ _ (sym (c .before .before .before .before .before .before .before .before .before .tab-line .ensures) ∙ ap saidParsed (c .before .before .before .before .before .before .before .number .given .1)) in
-    let key = c .before .before .before .before .tab-line-key .ensures in (
+    let key = c .before .before .before .before .tab-line-key .ensures .0 in (
       c .push-number .ensures ∙ c .before .before .before .push .ensures .0 ∙ ap (pushSays p) key ∙ sym (ap (lineSays p) entry),
       c .before .before .before .push .ensures .1 ∙ ap (λ (k : Key). pushPool p k (c .before .before .before .before .before .before .before .number .given .0 .1 .0)) key ∙ sym (ap (linePool p) entry),
     )

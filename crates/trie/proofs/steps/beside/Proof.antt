@@ -1,5 +1,4 @@
 -- `trie::steps::beside` meets its contract: the bit behind the node's own tells (`sibling-there`, `sibling-none`). Assumes nothing.
-use mathlib.Core.Path.{sym, _∙_}
 use native.Mathlib.Omega.{arith}
 use borrow.Author.Needs.{needs}
 use Rattle.keymap.specs.Image.{Image}
@@ -31,13 +30,13 @@ parent-of-requires c κs = search needs
 returns : tie.Need-returns
 returns c =
     let start = c .before .before .before .before .before .before .before in
-    sibling-there (imageAt start) (start .pre .0) (start .args .at) (start .pre .1 .0) (start .pre .1 .1) (sym (c .before .before .bit-at .ensures) ∙ c .before .if1 .taken)
+    sibling-there (imageAt start) (start .pre .0) (start .args .at) (start .pre .1 .0) (start .pre .1 .1) (omega (arith, c .before .before .bit-at .ensures))
 
 returns-2 : tie.Need-returns-2
 returns-2 c =
     let start = c .before .before .before .before .before .before .before in (
       c .parent-of .ensures,
-      sibling-none (imageAt start) (start .pre .0) (start .args .at) (start .pre .1 .0) (start .pre .1 .1) (λ e. c .before .if1 .left (c .before .before .bit-at .ensures ∙ e)),
+      sibling-none (imageAt start) (start .pre .0) (start .args .at) (start .pre .1 .0) (start .pre .1 .1) (λ e. omega (arith, c .before .before .bit-at .ensures, e)),
     )
 
 pub beside-spec : {M : Type 1} → statement M

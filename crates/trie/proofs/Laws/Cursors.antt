@@ -6,6 +6,7 @@
 --     given-unvalued, given-predictive, given-own, given-postfix     whether a node is that of a key of the set
 --     belongs-no-top, belongs-fresh, belongs-no-last, belongs-last   which cursors belong, and back: `belongs-under`
 --     saysStep-entry, saysStep-nothing   a step's answer, by what was given, and `given-inside`: that is a node
+--     entry-path                       the key of an entry is the path of a node, and `extends-own`: no key extends itself
 --     belongs-at                       the cursor at the node of a key of the set belongs
 --     nextIn-at, nextIn-later          what the next step gives, and `head-valued`, `head-unvalued`, `head-longer` of a fresh cursor
 --     startSays-refused, startSays-accepted                          what a start says
@@ -49,6 +50,10 @@ use Rattle.trie.specs.Steps.{Under, givenBy}
 use Rattle.trie.specs.Cursors.{setOf, given, lastBelongs, belongs, startSays, nextIn, saysEnd, saysStep, stepSays}
 use Rattle.trie.proofs.Laws.Image.{length-prefixes}
 
+-- the key of an entry is the path of a node
+pub entry-path : (m : Map) (e : Entry) → In e m → In (e .0) (nodes m)
+entry-path m e i = nodes-iff m (e .0) .1 (inr (e, i, prefix-refl (e .0)))
+
 module _ (m : Map) (rises : Rising m) where
   pub setOf-rising : (kind : Kind) (p : Key) → Rising (setOf m kind p)
   setOf-rising kinds.Predictive p = beginning-rising p m rises
@@ -58,10 +63,7 @@ module _ (m : Map) (rises : Rising m) where
   setOf-in kinds.Predictive p e i = beginning-iff p m e .0 i
   setOf-in kinds.Postfix p e i = let (j, h, l) = longer-iff p m e .0 i in (j, h)
 
-  -- the key of an entry, and what it begins with, are paths of nodes
-  entry-node : (e : Entry) → In e m → In (e .0) (nodes m)
-  entry-node e i = nodes-iff m (e .0) .1 (inr (e, i, prefix-refl (e .0)))
-
+  -- and so is what a key of a set begins with
   pub top-node : (kind : Kind) (p : Key) (e : Entry) → In e (setOf m kind p) → In p (nodes m)
   top-node kind p e i = let (j, h) = setOf-in kind p e i in nodes-iff m p .1 (inr (e, j, h))
 
@@ -79,7 +81,7 @@ module _ (m : Map) (rises : Rising m) where
 
   module _ (kind : Kind) (p : Key) (e : Entry) (i : In e (setOf m kind p)) where
     own-path : pathOf m (nodeOf m (e .0)) ≡ e .0
-    own-path = pathOf-nodeOf m (e .0) (entry-node e (setOf-in kind p e i .0))
+    own-path = pathOf-nodeOf m (e .0) (entry-path m e (setOf-in kind p e i .0))
 
     top-path : pathOf m (nodeOf m p) ≡ p
     top-path = pathOf-nodeOf m p (top-node kind p e i)
@@ -90,7 +92,7 @@ module _ (m : Map) (rises : Rising m) where
         both-true (isNode m (nodeOf m p)) (isNode m (nodeOf m (e .0)) && given (lookup (pathOf m (nodeOf m (e .0))) (setOf m kind (pathOf m (nodeOf m p))))) .1 (
           isNode-iff m (nodeOf m p) .1 (nodeOf-node m p (top-node kind p e i)),
           both-true (isNode m (nodeOf m (e .0))) (given (lookup (pathOf m (nodeOf m (e .0))) (setOf m kind (pathOf m (nodeOf m p))))) .1 (
-            isNode-iff m (nodeOf m (e .0)) .1 (nodeOf-node m (e .0) (entry-node e (setOf-in kind p e i .0))),
+            isNode-iff m (nodeOf m (e .0)) .1 (nodeOf-node m (e .0) (entry-path m e (setOf-in kind p e i .0))),
             rw (own-path, top-path, lookup-iff (e .0) (e .1) (setOf m kind p) (setOf-rising kind p) .1 i),
           ),
         )
@@ -235,7 +237,7 @@ given-inside m r kind p last k v e = go (nextIn m (setOf m kind p) last) refl e
     go : (o : Option Entry) → nextIn m (setOf m kind p) last ≡ o → givenBy m o ≡ gives.Entry k v → IsNode m k
     go none f g = let z : _≡_ {A = ℕ} 0 1 = cc in absurd (omega arith)
     go (some d) f g =
-        let own : In (d .0) (nodes m) = entry-node m r d (setOf-in m r kind p d (nextIn-in m r kind p last d f) .0) in
+        let own : In (d .0) (nodes m) = entry-path m d (setOf-in m r kind p d (nextIn-in m r kind p last d f) .0) in
         let at : nodeOf m (d .0) ≡ k = cc in
         rw at at (nodeOf-node m (d .0) own)
 

@@ -6,7 +6,6 @@
 --     key-refused, key-finished, key-fresh, key-strange, key-short, key-written    the cases of the call
 -- Assumes nothing.
 use mathlib.Core.Path.{_≡_, refl, sym, ap, _∙_}
-use mathlib.Core.Logic.{inr}
 use Prim.Native.Nat.{ℕ, zero, suc, _+_, _-_, _≤_, _<_}
 use native.Mathlib.Omega.{arith}
 use mathlib.Core.Bool.{Bool, true, false}
@@ -18,10 +17,10 @@ use Rattle.keymap.specs.Key.{Key, PrefixOf}
 use Rattle.keymap.specs.Refusals.{refusalNumber, NotAnImage, BadPlace, KeyRoom}
 use Rattle.keymap.specs.Map.{Entry, Map}
 use Rattle.keymap.specs.Image.{Image}
-use Rattle.keymap.specs.Paths.{nodes, IsNode, pathOf, nodeOf}
+use Rattle.keymap.specs.Paths.{IsNode, pathOf, nodeOf}
 use Rattle.keymap.specs.Decode.{imageMap}
-use Rattle.keymap.proofs.Laws.Begins.{prefix-iff, prefix-refl, prefix-length}
-use Rattle.keymap.proofs.Laws.Paths.{pathOf-nodeOf, nodeOf-node, nodes-iff}
+use Rattle.keymap.proofs.Laws.Begins.{prefix-iff, prefix-length}
+use Rattle.keymap.proofs.Laws.Paths.{pathOf-nodeOf, nodeOf-node}
 use Rattle.image.specs.AcceptTest.{imageTest}
 use Rattle.trie.specs.declared.Kind.{Kind}
 use Rattle.trie.specs.declared.Kind.the-variants as kinds
@@ -32,6 +31,7 @@ use Rattle.trie.specs.Steps.{Under}
 use Rattle.trie.specs.Cursors.{belongs}
 use Rattle.trie.specs.GivenKey.{givenKey, keySays, keyOut}
 use Rattle.trie.proofs.Laws.Spelling.{spelled-all, lastBytes-behind}
+use Rattle.trie.proofs.Laws.Cursors.{entry-path}
 use Rattle.trie.proofs.Laws.Prefix.{Written, written-fits, written-short}
 
 -- ---- the key of a node
@@ -60,16 +60,13 @@ module _ (m : Map) (top node : ℕ) (under : Under m top node) where
 
 -- of an entry that a step gave: the key itself, and behind the query
 module _ (m : Map) (top : ℕ) (e : Entry) (there : In e m) where
-  entry-node : In (e .0) (nodes m)
-  entry-node = nodes-iff m (e .0) .1 (inr (e, there, prefix-refl (e .0)))
-
   pub givenKey-predictive : givenKey m kinds.Predictive top (nodeOf m (e .0)) ≡ e .0
-  givenKey-predictive = pathOf-nodeOf m (e .0) entry-node
+  givenKey-predictive = pathOf-nodeOf m (e .0) (entry-path m e there)
 
   pub givenKey-postfix : IsNode m top → PrefixOf (pathOf m top) (e .0) → pathOf m top ++ givenKey m kinds.Postfix top (nodeOf m (e .0)) ≡ e .0
   givenKey-postfix n b =
-      let path : pathOf m (nodeOf m (e .0)) ≡ e .0 = pathOf-nodeOf m (e .0) entry-node in
-      givenKey-whole m top (nodeOf m (e .0)) (record { top-inside = n; inside = nodeOf-node m (e .0) entry-node; begins = rw path b }) ∙ path
+      let path : pathOf m (nodeOf m (e .0)) ≡ e .0 = pathOf-nodeOf m (e .0) (entry-path m e there) in
+      givenKey-whole m top (nodeOf m (e .0)) (record { top-inside = n; inside = nodeOf-node m (e .0) (entry-path m e there); begins = rw path b }) ∙ path
 
 -- ---- the call
 

@@ -3,8 +3,8 @@
 --     labels-are, values-are, words-are
 --                       the slices by the definitions of an image
 --     length-nodes      n entries, and so n + 1 nodes
---     isNode-is         the test of a number, by the length of the label slice; `isNode-zero`: 0 is none
 --     length-values     as many values
+--     isNode-zero, isNode-upto    the test of a number, by how many entries there are
 --     entry-node        the label entry of a node
 --     value-node        its value
 --     bits-are          the bits are those of the map's image
@@ -58,16 +58,16 @@ module _ (i : Image) (h : MapImage i) where
   unfolding nodes
   length-nodes = omega (arith, length-prefixes)
 
-  pub isNode-zero : isNode (imageMap i) 0 ≡ false
-  unfolding isNode
-  isNode-zero = refl
-
-  pub isNode-is : (k : ℕ) → 1 ≤ k → isNode (imageMap i) k ≡ leb k (length (i .labels) + 1)
-  unfolding isNode
-  isNode-is k l = rw (le-leb 1 k l, length-nodes)
-
   pub length-values : length (i .values) ≡ length (i .labels)
   length-values = ap length values-are ∙ length-imageValues (imageMap i) ∙ length-prefixes
+
+  pub isNode-zero : (k : ℕ) → k ≡ 0 → isNode (imageMap i) k ≡ false
+  unfolding isNode
+  isNode-zero k e = rw e
+
+  pub isNode-upto : (k : ℕ) → ¬ (k ≡ 0) → isNode (imageMap i) k ≡ leb k (length (i .labels) + 1)
+  unfolding isNode
+  isNode-upto k n = rw (le-leb 1 k (omega arith), length-nodes)
 
   -- what the slices say of a node but the root
   pub entry-node : (k : ℕ) → IsNode (imageMap i) k → 2 ≤ k

@@ -35,6 +35,7 @@ use Rattle.trie.specs.declared.place.Answer.{Answer}
 use Rattle.trie.specs.declared.place.Answer.the-variants.{Prefix, Match, PrefixAndMatch}
 use Rattle.trie.specs.Cursors.{given}
 use Rattle.trie.specs.Incremental.{saidAnswer, tellsPrefix, tellsMatch, saysOk, saysErr, placeAt, onPlace, fromPlace, pathSays, queryIn, querySays, queryMoves, walkable, followIn, followSays, followMoves, commonBelow, gotoIn, gotoSays, gotoMoves, Promise}
+use Rattle.trie.proofs.Laws.Cursors.{extends-own}
 
 -- ---- what a path is
 
@@ -165,11 +166,7 @@ module _ (m : Map) (p : Key) where
 
 -- the longer keys have no value at the path itself
 pub lookup-longer-same : (m : Map) → Rising m → (p : Key) → lookup p (longer p m) ≡ none
-lookup-longer-same m r p = lookup-longer p m r p ∙ rw (shorter (extends p p) refl)
-  where
-    shorter : (t : Bool) → extends p p ≡ t → extends p p ≡ false
-    shorter true e = absurd (omega (arith, extends-iff p p .0 e .1))
-    shorter false e = e
+lookup-longer-same m r p = lookup-longer p m r p ∙ rw (extends-own p)
 
 -- and the values of the map behind it
 pub lookup-longer-behind : (m : Map) → Rising m → (p q : Key) → PrefixOf p q → length p < length q → lookup q (longer p m) ≡ lookup q m

@@ -1,6 +1,7 @@
 -- Moving from a node by labels, on an image that some map has: the stand that a walk reached is at the path that is one label longer, so it is the node of the map's path,
 -- and where none was reached the map has no such path.
 --
+--     node-small        a node's number is small
 --     answer-leaf, answer-inner     what a node but the root is
 --     query-found, query-missed     one label
 --     goto-ends, goto-parts     no child, or several; `goto-single`: through the only child, and `goto-key`, `goto-parting` by what is held at the end
@@ -46,8 +47,6 @@ use Rattle.trie.proofs.Laws.Glide.{common-node, glided-at}
 use Rattle.trie.proofs.Laws.Incremental.{pathSays-is, leaf-valued, longer-node, path-not, walkable-is, follow-empty, follow-whole, follow-failed, goto-none, goto-some, lookup-longer-same, lookup-longer-behind}
 
 module _ (i : Image) (h : MapImage i) where
-  -- ---- numbers of nodes
-
   -- a node's number is small
   pub node-small : (k : ℕ) → IsNode (imageMap i) k → k ≤ 4097
   node-small k n = omega (arith, n, length-nodes i h, h .few)

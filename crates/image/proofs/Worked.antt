@@ -1,8 +1,7 @@
 -- The image test computed on the images of 01's worked lines, and on the image of map A with one thing damaged.
 -- Assumes nothing.
 use mathlib.Core.Path.{_≡_, refl}
-use Prim.Native.Nat.{ℕ}
-use mathlib.Core.Bool.{Bool, true, false}
+use mathlib.Core.Bool.{true, false}
 use mathlib.Core.List.{List, [], _∷_, map}
 use Rattle.keymap.specs.Image.{Image}
 use Rattle.keymap.specs.Bits.{bit}

@@ -4,7 +4,7 @@ use mathlib.Core.Path.{_≡_, refl}
 use Prim.Native.Nat.{ℕ}
 use mathlib.Core.List.{List, [], _∷_, map}
 use lib.ListN.{replicate}
-use Rattle.keymap.specs.Key.{Key, compareKeys}
+use Rattle.keymap.specs.Key.{Key}
 use Rattle.keymap.specs.Map.{Map}
 use Rattle.keymap.specs.Forest.{listForest, listTree}
 use Rattle.records.specs.Words.{Pool, word, put, lastRecord, usedCount, nextRecord, taken}

@@ -6,7 +6,6 @@
 --     rest-step                  a step takes it from the rest
 -- Assumes nothing.
 use mathlib.Core.Path.{_≡_, refl, sym, ap, subst, _∙_}
-use mathlib.Core.Logic.{inr}
 use Prim.Native.Nat.{ℕ, zero, suc}
 use native.Mathlib.Omega.{arith}
 use mathlib.Core.Bool.{Bool, true, false}
@@ -16,13 +15,12 @@ use Rattle.keymap.specs.Members.{In, here}
 use Rattle.keymap.specs.Key.{Key, Below, isBelow}
 use Rattle.keymap.specs.Map.{Entry, Map, Before, Rising}
 use Rattle.keymap.specs.Queries.{keep, leastAbove}
-use Rattle.keymap.specs.Paths.{nodes, pathOf, nodeOf}
+use Rattle.keymap.specs.Paths.{pathOf, nodeOf}
 use Rattle.keymap.proofs.Laws.Key.{below-irrefl, below-asym}
-use Rattle.keymap.proofs.Laws.Begins.{prefix-refl}
 use Rattle.keymap.proofs.Laws.Members.{head-in}
 use Rattle.keymap.proofs.Laws.Map.{before-weak, before-all}
 use Rattle.keymap.proofs.Laws.Queries.{keep-iff, keep-all, above-iff}
-use Rattle.keymap.proofs.Laws.Paths.{pathOf-nodeOf, nodeOf-pathOf, nodes-iff}
+use Rattle.keymap.proofs.Laws.Paths.{pathOf-nodeOf, nodeOf-pathOf}
 use Rattle.trie.specs.declared.Kind.{Kind}
 use Rattle.trie.specs.declared.Kind.the-variants as kinds
 use Rattle.trie.specs.declared.Cursor.{Cursor}
@@ -31,7 +29,7 @@ use Rattle.trie.specs.declared.Stepped.the-variants as stepped
 use Rattle.trie.specs.declared.Spelled.the-variants as spelled
 use Rattle.trie.specs.Cursors.{setOf, belongs, nextIn}
 use Rattle.trie.specs.GivenKey.{keyOf}
-use Rattle.trie.proofs.Laws.Cursors.{setOf-rising, setOf-in, belongs-at, belongs-top}
+use Rattle.trie.proofs.Laws.Cursors.{entry-path, setOf-rising, setOf-in, belongs-at, belongs-top}
 use Rattle.catalogue.specs.Listing.{nextEntry, nextCursor, shown, restIn, restOf}
 
 -- ---- the entry that is given next
@@ -41,9 +39,6 @@ next-in : (m : Map) (set : Map) (last : ℕ) (e : Entry) → nextIn m set last �
 unfolding leastAbove
 next-in m set zero e h = head-in set h
 next-in m set (suc k) e h = keep-iff (λ (d : Entry). isBelow (pathOf m (suc k)) (d .0)) e set .0 (head-in (keep (λ (d : Entry). isBelow (pathOf m (suc k)) (d .0)) set) h) .0
-
-entry-node : (m : Map) (e : Entry) → In e m → In (e .0) (nodes m)
-entry-node m e i = nodes-iff m (e .0) .1 (inr (e, i, prefix-refl (e .0)))
 
 module _ (m : Map) (r : Rising m) where
   pub next-member : (c : Cursor) (e : Entry) → nextEntry m c ≡ some e → In e m
@@ -122,7 +117,7 @@ module _ (m : Map) (r : Rising m) where
   unfolding nodeOf
   rest-next kind top last e rest h i =
       let set : Map = setOf m kind (pathOf m top) in
-      ap (λ (k : Key). above k set) (pathOf-nodeOf m (e .0) (entry-node m e i)) ∙ go last h
+      ap (λ (k : Key). above k set) (pathOf-nodeOf m (e .0) (entry-path m e i)) ∙ go last h
     where
       go : (k : ℕ) → restIn m (setOf m kind (pathOf m top)) k ≡ e ∷ rest → above (e .0) (setOf m kind (pathOf m top)) ≡ rest
       go zero g = ap (above (e .0)) g ∙ above-first e rest (subst Rising g (setOf-rising m r kind (pathOf m top)))

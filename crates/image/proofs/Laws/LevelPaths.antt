@@ -36,7 +36,7 @@ use Rattle.image.specs.Buffers.{over}
 use Rattle.image.specs.Build.{buildSays, buildScratch}
 use Rattle.image.specs.LevelOrder.{childRecords, levelRecords}
 use Rattle.image.proofs.Laws.Buffers.{getD-over}
-use Rattle.image.proofs.Laws.LevelOrder.{child-records, child-only, level-law, level-count, level-used, queued, queued-ahead}
+use Rattle.image.proofs.Laws.LevelOrder.{child-records, level-law, level-count, level-used, queued, queued-ahead}
 
 -- ---- one list only
 

@@ -12,15 +12,13 @@
 --     nodesAbove-falls             above the next node are fewer
 -- Assumes nothing.
 use mathlib.Core.Path.{_≡_, refl, sym, ap, subst, _∙_}
-use mathlib.Core.Logic.{_↔_, _⊎_, inl, inr, ⊎-elim}
-use mathlib.Core.Bool.{Bool, true, false}
-use Prim.Native.Nat.{ℕ, zero, suc, _+_, _≤_, _<_, Ordering·lt}
+use mathlib.Core.Logic.{_↔_, _⊎_, inl, inr}
+use Prim.Native.Nat.{ℕ, suc, _+_, _<_}
 use native.Mathlib.Omega.{arith}
-use native.Mathlib.Nat.{not-suc-le-zero, le-of-suc-le-suc}
-use mathlib.Core.List.{List, [], _∷_, _++_, head?, append-assoc, append-nil, cons-ne-nil, List·Memᴰ·cases-cons, List·Memᴰ·not-nil}
+use mathlib.Core.List.{List, [], _∷_, _++_, head?, append-assoc, append-nil, cons-ne-nil}
 use mathlib.Core.Option.{Option, none, some}
 use lib.ListN.{length, getD, length-append}
-use Rattle.keymap.specs.Members.{In, here, there, Ordered}
+use Rattle.keymap.specs.Members.{In, here, Ordered}
 use Rattle.keymap.specs.Key.{Key, compareKeys, Below, isBelow, beginsWith, PrefixOf, lastByte}
 use Rattle.keymap.specs.Map.{Entry, Map, Rising, lookup}
 use Rattle.keymap.specs.Queries.{keep, SomeBegins, beginning, longer, leastAbove, NextAfter}

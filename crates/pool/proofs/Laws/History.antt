@@ -11,7 +11,7 @@
 --     fits-says                                       a nonempty key for which there is room is accepted
 --     refill-says, refill-map                         a sound pool counts as reset and then given the keys that it holds: all are accepted, and leave its map
 -- Assumes nothing.
-use Prim.Native.Nat.{ℕ, _+_, _≤_, _<_}
+use Prim.Native.Nat.{ℕ, _≤_, _<_}
 use mathlib.Core.Path.{_≡_, refl, sym, _∙_, ap}
 use mathlib.Core.Bool.{Bool, true, false, cond}
 use mathlib.Core.List.{List, [], _∷_, map}

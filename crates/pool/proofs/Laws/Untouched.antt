@@ -8,7 +8,7 @@
 -- Assumes nothing.
 use Prim.Native.Nat.{ℕ, _+_, _*_, _/_, _%_, _≤_, _<_}
 use mathlib.Core.Path.{_≡_, refl, sym, _∙_, ap, subst}
-use mathlib.Core.Bool.{Bool, true, false, cond}
+use mathlib.Core.Bool.{Bool, true, false}
 use mathlib.Core.List.{[], _∷_}
 use mathlib.Core.Logic.{inl, inr, ⊎-elim}
 use native.Mathlib.Omega.{arith}
@@ -29,7 +29,7 @@ use Rattle.pool.proofs.Laws.Siblings.{slot-from-end, slot-of-start, slo
 use Rattle.pool.proofs.Laws.Path.{reach-split, split-rest, split-missing}
 use Rattle.pool.proofs.Laws.Writing.{marked-other, marked-last}
 use Rattle.pool.proofs.Laws.Entering.{enter-words, enter-node, can-enter, can-enter-rest, entered-all}
-use Rattle.pool.proofs.Laws.Push.{push-accepted, push-keeps, length-push, can-insert, end-in-use}
+use Rattle.pool.proofs.Laws.Push.{push-accepted, can-insert, end-in-use}
 
 -- ---- records entered
 module _ (p : Pool) (i b : ℕ) (can : CanEnter p i b) where

@@ -8,7 +8,7 @@ use Rattle.keymap.specs.Bits.{sumBelow, number, table, pack}
 use Rattle.keymap.specs.Degrees.{unary, sequence}
 use Rattle.records.specs.Words.{Pool, word, lastRecord, usedCount}
 use Rattle.records.specs.SoundTest.{both, wordsFit, recordFits, isChild, chainRest, recordRest, passRest, rootFits, soundTest}
-use Rattle.image.specs.Buffers.{over}
+use Rattle.keymap.specs.Buffers.{over}
 use Rattle.image.specs.LevelOrder.{siblingRecords, childRecords, takenFrom, levelRecords, recordDegree, poolLabels, poolValues, poolWords}
 use Rattle.image.specs.Build.{buffersFit, fitSays, buildSays, buildLabels, buildValues, buildWords, buildScratch}
 

@@ -1,16 +1,8 @@
--- What is written into lent buffers: "Longer buffers keep their tails" (01).
---
---     over          a buffer with something written over its front
---     withRun       words with a run of bits set
+-- Words with a run of bits set, as build sets the ones of a node's children.
 -- Assumes nothing.
 use Prim.Native.Nat.{ℕ, zero, suc}
-use mathlib.Core.List.{List, _++_}
-use lib.ListN.{length, drop}
+use mathlib.Core.List.{List}
 use Rattle.louds.specs.Put.{withOne}
-
--- xs, and what it leaves of ys
-unfoldable pub over : List ℕ → List ℕ → List ℕ
-over xs ys = xs ++ drop (length xs) ys
 
 -- ones at p, p + 1, .., d of them
 unfoldable pub withRun : List ℕ → (p d : ℕ) → List ℕ

@@ -19,7 +19,7 @@ use Rattle.records.specs.Sound.{Chain, Sound}
 use Rattle.records.specs.SoundTest.{soundTest}
 use Rattle.pool.specs.Answers.{accepted}
 use Rattle.image.specs.declared.answers.Built.{Built}
-use Rattle.image.specs.Buffers.{over}
+use Rattle.keymap.specs.Buffers.{over}
 use Rattle.image.specs.LevelOrder.{childRecords, levelRecords, poolLabels, poolValues, poolWords}
 
 abbrev pub saidBuilt : Built → List ℕ

@@ -9,7 +9,8 @@ ghost use mathlib.Core.List.{_∷_};
 ghost use Prim.Native.Nat.{_≤_};
 ghost use lib.ListN.{length, getD, replicate};
 ghost use lib.Seq.{sets};
-ghost use Rattle.image.specs.Buffers.{over, withRun};
+ghost use Rattle.keymap.specs.Buffers.{over};
+ghost use Rattle.image.specs.Buffers.{withRun};
 ghost use Rattle.image.specs.LevelOrder.{childRecords, levelRecords, poolWords};
 ghost use Rattle.image.specs.Build.{CanQueue, Levels};
 

@@ -5,7 +5,7 @@ ghost use mathlib.Core.Path.{_≡_};
 ghost use mathlib.Core.List.{map};
 ghost use lib.ListN.{take};
 ghost use Rattle.records.specs.Words.{entry, value};
-ghost use Rattle.image.specs.Buffers.{over};
+ghost use Rattle.keymap.specs.Buffers.{over};
 ghost use Rattle.image.specs.Build.{CanTell};
 
 // Writes the first n records of a list, each with its label entry and its value.

@@ -1,4 +1,5 @@
 -- The laws of the definitions, and the bridges between them; the header of each file lists those that other files cite. Assumes nothing.
+pub mod Buffers
 pub mod Refusals
 pub mod Members
 pub mod Key

@@ -1,4 +1,5 @@
 pub mod Limits
+pub mod Buffers
 pub mod Refusals
 pub mod Members
 pub mod Key

@@ -6,7 +6,8 @@ use Prim.Native.String.{String, [] as []ˢ, _∷_ as _∷ˢ_}
 use mathlib.Core.List.{List, [], _∷_, map}
 use lib.ListN.{replicate}
 use Rattle.keymap.specs.Map.{Entry}
-use Rattle.lines.specs.Bytes.{holds, stretch, onto}
+use Rattle.keymap.specs.Buffers.{over}
+use Rattle.lines.specs.Bytes.{holds, stretch}
 use Rattle.lines.specs.Decimal.{decimalFrom, decimal, areDigits, valueAfter, leadingZero, isDecimal, numberIn}
 use Rattle.lines.specs.TabLine.{keyPart, numberPart, tabEntry, tabLineSays, tabLineKey}
 use Rattle.lines.specs.Text.{linesOf, nextLineSays}
@@ -118,5 +119,5 @@ writes =
     ∷ []
 
 pub worked-writes : map {B = Told} (λ (w : Written). (writeLineSays (w .0) (replicate (w .1) 1), writeLineOut (w .0) (replicate (w .1) 1))) writes ≡ map (λ (w : Written). (w .2, ascii (w .3))) writes
-unfolding ascii onto decimalFrom decimal tabLine tabText writeLineSays writeLineOut
+unfolding ascii over decimalFrom decimal tabLine tabText writeLineSays writeLineOut
 worked-writes = refl

@@ -1,9 +1,8 @@
--- The bytes that a tab text is cut at (01, module 8), where a byte stands first in a text, and a text put into a buffer.
+-- The bytes that a tab text is cut at (01, module 8), and where a byte stands first in a text.
 -- Assumes nothing.
 use Prim.Native.Nat.{ℕ, zero, suc}
 use mathlib.Core.Bool.{Bool, false, cond, _||_}
-use mathlib.Core.List.{List, [], _∷_, _++_}
-use lib.ListN.{length, drop}
+use mathlib.Core.List.{List, [], _∷_}
 use lib.Dec.{eqb}
 
 -- TAB, between key and number
@@ -23,7 +22,3 @@ holds b (a ∷ t) = eqb a b || holds b t
 unfoldable pub stretch : ℕ → List ℕ → ℕ
 stretch b [] = zero
 stretch b (a ∷ t) = cond (eqb a b) zero (suc (stretch b t))
-
--- a buffer with a text at its start: bytes past the text stay
-unfoldable pub onto : List ℕ → List ℕ → List ℕ
-onto t out = t ++ drop (length t) out

@@ -16,7 +16,8 @@ use lib.Dec.{ltb}
 use Rattle.keymap.specs.Limits.{valueLimit}
 use Rattle.keymap.specs.Map.{Entry}
 use Rattle.keymap.specs.Refusals.{Refusal, refusalNumber}
-use Rattle.lines.specs.Bytes.{tab, lineFeed, holds, onto}
+use Rattle.keymap.specs.Buffers.{over}
+use Rattle.lines.specs.Bytes.{tab, lineFeed, holds}
 use Rattle.lines.specs.Decimal.{decimal}
 
 unfoldable pub tabLine : Entry → List ℕ
@@ -42,4 +43,4 @@ unfoldable pub writeLineSays : Entry → List ℕ → List ℕ
 writeLineSays e out = cond (ltb (length out) (length (tabText e))) (refusalNumber Refusal.KeyRoom ∷ []) (0 ∷ length (tabText e) ∷ [])
 
 unfoldable pub writeLineOut : Entry → List ℕ → List ℕ
-writeLineOut e out = cond (ltb (length out) (length (tabText e))) out (onto (tabText e) out)
+writeLineOut e out = cond (ltb (length out) (length (tabText e))) out (over (tabText e) out)

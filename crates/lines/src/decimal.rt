@@ -3,7 +3,7 @@ ghost use mathlib.Core.Path.{_≡_};
 ghost use Prim.Native.Nat.{_+_, _≤_};
 ghost use mathlib.Core.List.{_++_};
 ghost use lib.ListN.{length, take, drop};
-ghost use Rattle.lines.specs.Bytes.{onto};
+ghost use Rattle.keymap.specs.Buffers.{over};
 ghost use Rattle.lines.specs.Decimal.{mostDigits, decimal, leadingZero, numberIn};
 ghost use Rattle.lines.specs.Numerals.{spelled, digitsIn};
 
@@ -97,7 +97,7 @@ pub fn digit_count(number: u32) -> usize
 pub fn put_decimal(number: u32, count: usize, at: usize, out: &mut [u8])
     requires { ⌜ count ≡ length (decimal number) ⌝ }
     requires { ⌜ at + count ≤ length (now out) ⌝ }
-    ensures { λ _. ⌜ now (out .exit) ≡ take at (now (out .entry)) ++ onto (decimal number) (drop at (now (out .entry))) ⌝ }
+    ensures { λ _. ⌜ now (out .exit) ≡ take at (now (out .entry)) ++ over (decimal number) (drop at (now (out .entry))) ⌝ }
 {
     let mut rest = number;
     let mut left = count;

@@ -23,8 +23,8 @@ use Rattle.pool.specs.Answers.{accepted}
 use Rattle.pool.specs.History.{Call as PoolCall, AllLent, callPool, runPool}
 use Rattle.pool.proofs.Laws.History.{call-sound, call-capacity}
 use Rattle.image.specs.Build.{buffersFit, fitSays, buildSays}
-use Rattle.image.specs.Buffers.{over}
-use Rattle.image.proofs.Laws.Buffers.{take-over}
+use Rattle.keymap.specs.Buffers.{over}
+use Rattle.keymap.proofs.Laws.Buffers.{take-over}
 use Rattle.image.proofs.Laws.PoolImage.{Shows, build-means-image}
 use Rattle.image.proofs.Laws.History.{build-says}
 use Rattle.theorems.specs.Built.{builtImage}

@@ -37,7 +37,7 @@ use Rattle.image.proofs.Laws.AcceptAnswer.{acceptSays-refused}
 use Rattle.image.proofs.Laws.Build.{says-small, says-unsound, says-sound}
 use Rattle.image.proofs.Laws.Passed.{test-accepted}
 use Rattle.image.proofs.Laws.Accept.{accepted-iff}
-use Rattle.lines.specs.Bytes.{onto}
+use Rattle.keymap.specs.Buffers.{over}
 use Rattle.lines.specs.TabLine.{entrySays, entryKey, tabEntry, tabLineSays, tabLineKey}
 use Rattle.lines.specs.Writing.{tabText, writeLineSays, writeLineOut}
 use Rattle.trie.specs.declared.Cursor.{Cursor}
@@ -219,5 +219,5 @@ refusal-keeps = record {
   common-prefix-part = λ i q seen h. let o = commonPrefixIn q seen (imageMap i) in on-image i (saysCommon o) (partOf q o) [] (never (saysCommon o) (partOf q o) [] (common-accepted o)) h;
   common-prefix-none = λ i q seen h. no-part (imageTest i) (commonPrefixIn q seen (imageMap i)) (refuses Refusal.NotAnImage) q h;
   tab-line-key = λ line h. entry-kept (tabEntry line) h;
-  write-line = λ e out h. line-kept (ltb (length out) (length (tabText e))) out (onto (tabText e) out) (0 ∷ length (tabText e) ∷ []) refl h;
+  write-line = λ e out h. line-kept (ltb (length out) (length (tabText e))) out (over (tabText e) out) (0 ∷ length (tabText e) ∷ []) refl h;
 }

@@ -12,7 +12,7 @@ use Rattle.records.specs.Meaning.{siblingsFrom, forestBelow, poolForest, poolMa
 use Rattle.records.specs.SoundTest.{both, wordsFit, recordFits, isChild, chainRest, recordRest, passRest, rootFits, soundTest}
 use Rattle.records.specs.Words.{word, put, lastRecord, usedCount, nextRecord, taken}
 use Rattle.keymap.specs.Forest.{listForest, listTree, width}
-use Rattle.image.specs.Buffers.{over}
+use Rattle.keymap.specs.Buffers.{over}
 use Rattle.image.specs.LevelOrder.{siblingRecords, childRecords, takenFrom, levelRecords, recordDegree, poolLabels, poolValues, poolWords}
 use Rattle.image.specs.Build.{buffersFit, fitSays, buildSays, buildLabels, buildValues, buildWords, buildScratch}
 use Rattle.keymap.specs.Bits.{sumBelow, number, table, pack, bit, unpack}

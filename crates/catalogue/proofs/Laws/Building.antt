@@ -28,10 +28,10 @@ use Rattle.records.proofs.Laws.Sound.{used-within}
 use Rattle.records.proofs.Laws.SoundTest.{test-sound}
 use Rattle.records.proofs.Laws.Meaning.{count-prefixes}
 use Rattle.pool.specs.Answers.{accepted}
-use Rattle.image.specs.Buffers.{over}
+use Rattle.keymap.specs.Buffers.{over}
 use Rattle.image.specs.Build.{buffersFit, fitSays, buildSays, buildLabels, buildValues, buildWords}
 use Rattle.image.specs.Meaning.{lent, MapImage}
-use Rattle.image.proofs.Laws.Buffers.{length-over, take-over}
+use Rattle.keymap.proofs.Laws.Buffers.{length-over, take-over}
 use Rattle.image.proofs.Laws.Build.{fit-all}
 use Rattle.image.proofs.Laws.PoolImage.{build-means-image}
 

@@ -24,7 +24,7 @@ use Rattle.keymap.proofs.Laws.Members.{head-none}
 use Rattle.image.specs.AcceptTest.{imageTest}
 use Rattle.image.specs.Meaning.{MapImage}
 use Rattle.image.proofs.Laws.Meaning.{mapImage-tested}
-use Rattle.lines.specs.Bytes.{onto}
+use Rattle.keymap.specs.Buffers.{over}
 use Rattle.lines.specs.Writing.{tabText, writeLineOut}
 use Rattle.trie.specs.declared.Kind.the-variants as kinds
 use Rattle.trie.specs.declared.Cursor.{Cursor}
@@ -172,7 +172,7 @@ pub record LineIs (i : Image) (c : Cursor) (key line : List ℕ) (n : ℕ) (next
   pub within : n ≤ length (listLine i c key line)
 
 pub line-next : (i : Image) → MapImage i → (c : Cursor) (key line : List ℕ) (n : ℕ) (next : Cursor) → saidListed (Listed.Line n next) ≡ listSays i c key line → LineIs i c key line n next
-unfolding writeLineOut onto
+unfolding writeLineOut over
 line-next i image c key line n next h = given (belongs (imageMap i) c) refl (nextEntry (imageMap i) c) refl
   where
     m : Map

@@ -27,7 +27,7 @@ use Rattle.keymap.proofs.Laws.Paths.{pathOf-nodeOf, nodeOf-node, nodes-iff}
 use Rattle.image.specs.AcceptTest.{imageTest}
 use Rattle.image.specs.Meaning.{MapImage}
 use Rattle.image.proofs.Laws.Meaning.{mapImage-tested}
-use Rattle.lines.specs.Bytes.{onto}
+use Rattle.keymap.specs.Buffers.{over}
 use Rattle.lines.specs.Writing.{tabText, mapText, writeLineOut}
 use Rattle.trie.specs.declared.Kind.{Kind}
 use Rattle.trie.specs.declared.Kind.the-variants as kinds
@@ -151,7 +151,7 @@ module _ (i : Image) (image : MapImage i) (cursor : ℕ → Cursor) (key line : 
     stands : Stands (suc j) rest
 
   writes : (j : ℕ) (e : Entry) (rest : Map) → Stands j (e ∷ rest) → Writes j e rest
-  unfolding writeLineOut onto
+  unfolding writeLineOut over
   writes j e rest s =
       let r : Rising m = image .catalogue .rising in
       let c : Cursor = cursor j in

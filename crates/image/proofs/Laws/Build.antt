@@ -26,10 +26,10 @@ use Rattle.records.specs.SoundTest.{soundTest}
 use Rattle.records.proofs.Laws.SoundTest.{sound-test}
 use Rattle.pool.specs.Answers.{accepted}
 use Rattle.image.specs.declared.answers.Built.{Built}
-use Rattle.image.specs.Buffers.{over}
+use Rattle.keymap.specs.Buffers.{over}
 use Rattle.image.specs.LevelOrder.{levelRecords, poolLabels, poolValues, poolWords}
 use Rattle.image.specs.Build.{saidBuilt, buffersFit, fitSays, buildSays, buildLabels, buildValues, buildWords, buildScratch, CanTell}
-use Rattle.image.proofs.Laws.Buffers.{length-over, getD-over, take-over}
+use Rattle.keymap.proofs.Laws.Buffers.{length-over, getD-over, take-over}
 use Rattle.image.proofs.Laws.LevelOrder.{level-count, level-used, getD-in}
 
 module _ (n labels values words scratch : ℕ) where

@@ -30,8 +30,8 @@ use Rattle.records.specs.Sound.{In, Chain, Children, Sound}
 use Rattle.records.proofs.Laws.Distinct.{Once, in-append, in-left, in-right, once-append}
 use Rattle.records.proofs.Laws.Sound.{rises-distinct}
 use Rattle.records.proofs.Laws.Reached.{used-at-most, used-at-least, reached}
-use Rattle.image.specs.Buffers.{over}
-use Rattle.image.proofs.Laws.Buffers.{getD-over}
+use Rattle.keymap.specs.Buffers.{over}
+use Rattle.keymap.proofs.Laws.Buffers.{getD-over}
 use Rattle.image.specs.LevelOrder.{siblingRecords, childRecords, takenFrom, levelRecords}
 
 -- ---- chains

@@ -32,10 +32,10 @@ use Rattle.records.proofs.Laws.Spelling.{spells-child, spells-cut, spells-one-r
 use Rattle.records.proofs.Laws.Sound.{rises-above}
 use Rattle.records.proofs.Laws.Meaning.{map-forest, forest-orderly, map-rising, map-prefixes, count-prefixes}
 use Rattle.pool.specs.Answers.{accepted}
-use Rattle.image.specs.Buffers.{over}
+use Rattle.keymap.specs.Buffers.{over}
 use Rattle.image.specs.Build.{buildSays, buildScratch}
 use Rattle.image.specs.LevelOrder.{childRecords, levelRecords}
-use Rattle.image.proofs.Laws.Buffers.{getD-over}
+use Rattle.keymap.proofs.Laws.Buffers.{getD-over}
 use Rattle.image.proofs.Laws.LevelOrder.{child-records, level-law, level-count, level-used, queued, queued-ahead}
 
 -- ---- one list only

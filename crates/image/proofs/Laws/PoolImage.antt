@@ -34,7 +34,7 @@ use Rattle.records.proofs.Laws.Spelling.{spells-child, spells-most}
 use Rattle.records.proofs.Laws.Meaning.{forestOf, below-children, forest-orderly, map-forest, map-catalogue, count-prefixes, count-forest}
 use Rattle.records.proofs.Laws.Words.{count-last}
 use Rattle.pool.specs.Answers.{accepted}
-use Rattle.image.specs.Buffers.{over}
+use Rattle.keymap.specs.Buffers.{over}
 use Rattle.image.specs.Build.{buildSays, buildLabels, buildValues, buildWords}
 use Rattle.image.specs.LevelOrder.{childRecords, takenFrom, levelRecords, recordDegree, poolLabels, poolValues, poolWords, poolImage}
 use Rattle.image.specs.Accept.{OfMap}

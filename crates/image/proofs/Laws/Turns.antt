@@ -23,10 +23,12 @@ use Rattle.louds.specs.Put.{withOne}
 use Rattle.louds.proofs.Laws.Put.{length-withOne}
 use Rattle.records.specs.Words.{Pool, usedCount}
 use Rattle.records.specs.Sound.{Sound}
-use Rattle.image.specs.Buffers.{over, withRun}
+use Rattle.keymap.specs.Buffers.{over}
+use Rattle.image.specs.Buffers.{withRun}
 use Rattle.image.specs.LevelOrder.{childRecords, levelRecords, recordDegree, poolWords}
 use Rattle.image.specs.Build.{CanQueue, Levels}
-use Rattle.image.proofs.Laws.Buffers.{length-over, over-none, over-over, over-sets, withOne-over, withRun-over}
+use Rattle.keymap.proofs.Laws.Buffers.{length-over, over-none, over-over, over-sets}
+use Rattle.image.proofs.Laws.Buffers.{withOne-over, withRun-over}
 use Rattle.image.proofs.Laws.HeldBits.{HoldsBits, held-none, held-one, held-zero, held-run, held-pack, sequence-more}
 use Rattle.image.proofs.Laws.LevelOrder.{queued, child-chain, level-count, node-at, queued-front, queued-next, queued-node, queued-all}
 

@@ -1,5 +1,4 @@
 -- Laws of the first of a byte in a text: the stretch before it has none of them, and a text that has none is one stretch.
--- A text put into a buffer grows at its end, by a byte or by another text.
 --
 --     stretch-here          at b itself the stretch ends, and `stretch-other` another byte is part of it
 --     stretch-at            the same of what stands from a place on, and `stretch-past`, `stretch-end`
@@ -8,20 +7,18 @@
 --     stretch-append        the stretch of a text without b, put before a b, is that text
 --     holds-stretch         the stretch has no b
 --     holds-take            a leading part has a b exactly if it is longer than the stretch, and `holds-whole` the whole text
---     onto-set              the byte behind a text that was put, set
---     onto-behind           a text put behind another
 -- Assumes nothing.
 use mathlib.Core.Path.{_≡_, refl, sym, ap, _∙_}
 use Prim.Native.Nat.{ℕ, zero, suc, _+_, _≤_, _<_}
 use mathlib.Core.Bool.{Bool, true, false, _||_, or-assoc}
-use mathlib.Core.List.{List, [], _∷_, _++_, append-assoc}
+use mathlib.Core.List.{List, [], _∷_, _++_}
 use native.Mathlib.Omega.{arith}
 use native.Mathlib.Numerals.{add-one}
-use lib.ListN.{length, take, drop, getD, set, length-append, drop-of-length-le}
-use lib.Seq.{drop-cons, split-at, take-length, take-at, drop-at, set-at, drop-drop}
+use lib.ListN.{length, take, drop, getD, drop-of-length-le}
+use lib.Seq.{drop-cons, split-at, take-length}
 use lib.Dec.{eqb, ltb}
 use borrow.Author.Tests.{eqb-true, eq-eqb, ne-eqb, lt-ltb, le-ltb, ltb-true, ltb-false}
-use Rattle.lines.specs.Bytes.{holds, stretch, onto}
+use Rattle.lines.specs.Bytes.{holds, stretch}
 
 module _ (b : ℕ) where
   pub stretch-here : (a : ℕ) (t : List ℕ) → a ≡ b → stretch b (a ∷ t) ≡ zero
@@ -100,19 +97,3 @@ module _ (b : ℕ) where
       go : (c : Bool) → eqb a b ≡ c → (holds b s ≡ false → stretch b (s ++ (b ∷ t)) ≡ length s) → stretch b ((a ∷ s) ++ (b ∷ t)) ≡ length (a ∷ s)
       go true e ih = absurd (let k : true ≡ false = rw e at h in let z : _≡_ {A = ℕ} 0 1 = cc in omega arith)
       go false e ih = rw e (ap suc (ih (rw e at h)))
-
-pub onto-none : (out : List ℕ) → onto [] out ≡ out
-unfolding onto
-onto-none out = refl
-
-pub onto-set : (t out : List ℕ) (n a : ℕ) → length t ≡ n → n < length out → set (onto t out) n a ≡ onto (t ++ (a ∷ [])) out
-unfolding onto
-onto-set t out n a e h =
-    let l : length t < length out = omega arith in
-    let longer : length (t ++ (a ∷ [])) ≡ suc (length t) = simp length-append (omega arith) in
-    rw (longer, drop-cons out (length t) 0 l, set-at t (getD out (length t) 0) (drop (suc (length t)) out) a n e) (sym (append-assoc t (a ∷ []) (drop (suc (length t)) out)))
-
-pub onto-behind : (s t out : List ℕ) (n : ℕ) → length s ≡ n → take n (onto s out) ++ onto t (drop n (onto s out)) ≡ onto (s ++ t) out
-unfolding onto
-onto-behind s t out n e =
-    rw (take-at s (drop (length s) out) n e, drop-at s (drop (length s) out) n e, drop-drop, length-append, append-assoc)

@@ -7,7 +7,7 @@ use lib.ListN.{length}
 use borrow.Author.Needs.{needs}
 use borrow.Author.Tests.{lt-ltb, le-ltb}
 use Rattle.keymap.specs.Key.{Key}
-use Rattle.lines.specs.Bytes.{onto}
+use Rattle.keymap.specs.Buffers.{over}
 use Rattle.lines.specs.Decimal.{decimal}
 use Rattle.lines.specs.Writing.{tabText, writeLineSays, writeLineOut}
 use Rattle.lines.proofs.Laws.Decimal.{length-decimal-most}
@@ -23,7 +23,7 @@ module _ (key : Key) (n d : ℕ) (e : d ≡ length (decimal n)) (out : List ℕ)
       (rw (lt-ltb _ _ l), rw (lt-ltb _ _ l))
 
   long : length key + d + 2 ≤ length out
-      → (0 ∷ (length key + d + 2) ∷ [] ≡ writeLineSays (key, n) out) × (onto (tabText (key, n)) out ≡ writeLineOut (key, n) out)
+      → (0 ∷ (length key + d + 2) ∷ [] ≡ writeLineSays (key, n) out) × (over (tabText (key, n)) out ≡ writeLineOut (key, n) out)
   unfolding writeLineSays writeLineOut
   long h =
       let same : length (tabText (key, n)) ≡ length key + d + 2 = omega (arith, length-tabText (key, n)) in

@@ -6,8 +6,8 @@ use mathlib.Core.List.{List}
 use native.Mathlib.Omega.{arith}
 use lib.ListN.{length, set, replicate, length-set}
 use borrow.Author.Needs.{needs}
-use Rattle.image.specs.Buffers.{over}
-use Rattle.image.proofs.Laws.Buffers.{over-none, over-zeros}
+use Rattle.keymap.specs.Buffers.{over}
+use Rattle.keymap.proofs.Laws.Buffers.{over-none, over-zeros}
 use Rattle.image.proofs.breadth_first.clear.Statement.{statement}
 use Rattle.image.proofs.breadth_first.clear.Tie as tie
 

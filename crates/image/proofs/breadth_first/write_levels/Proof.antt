@@ -8,7 +8,7 @@ use lib.ListN.{length, replicate}
 use Rattle.keymap.specs.Bits.{wordsFor}
 use Rattle.keymap.specs.Image.{bitsFor}
 use Rattle.louds.specs.Put.{withOne}
-use Rattle.image.specs.Buffers.{over}
+use Rattle.keymap.specs.Buffers.{over}
 use borrow.Author.Needs.{needs}
 use Rattle.image.specs.Build.{Levels}
 use Rattle.image.proofs.Laws.Turns.{Turn, turn-first, turn-length, turn-room, turn-place, turn-asks, turn-next, turn-queue, turn-words}

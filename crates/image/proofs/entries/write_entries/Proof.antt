@@ -7,8 +7,8 @@ use native.Mathlib.Omega.{arith}
 use lib.ListN.{length, take, set, length-set}
 use borrow.Author.Needs.{needs}
 use Rattle.records.specs.Words.{entry, value}
-use Rattle.image.specs.Buffers.{over}
-use Rattle.image.proofs.Laws.Buffers.{over-none, over-told}
+use Rattle.keymap.specs.Buffers.{over}
+use Rattle.keymap.proofs.Laws.Buffers.{over-none, over-told}
 use Rattle.image.proofs.entries.write_entries.Statement.{statement}
 use Rattle.image.proofs.entries.write_entries.Tie as tie
 

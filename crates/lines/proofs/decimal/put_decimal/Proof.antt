@@ -7,7 +7,7 @@ use native.Mathlib.Nat.{add-zero}
 use native.Mathlib.Omega.{arith}
 use lib.ListN.{length, take, drop, getD, set, length-set, take-append-drop}
 use lib.Seq.{drop-cons, drop-drop, take-set-le, drop-set-lt, getD-set-same}
-use Rattle.lines.specs.Bytes.{onto}
+use Rattle.keymap.specs.Buffers.{over}
 use Rattle.lines.specs.Decimal.{zeroDigit, decimal}
 use Rattle.lines.proofs.Laws.Decimal.{lastDigits, lastDigits-all}
 use Rattle.lines.proofs.decimal.put_decimal.Statement.{statement}
@@ -44,8 +44,8 @@ done : (out : List ℕ) (at left rest : ℕ) → left ≡ 0 → out ≡ ended ou
 unfolding lastDigits
 done out at left rest e = rw (e, add-zero) (sym (take-append-drop at out))
 
-whole : (out : List ℕ) (at n k : ℕ) → k ≡ length (decimal n) → ended out at k n ≡ take at out ++ onto (decimal n) (drop at out)
-unfolding onto
+whole : (out : List ℕ) (at n k : ℕ) → k ≡ length (decimal n) → ended out at k n ≡ take at out ++ over (decimal n) (drop at out)
+unfolding over
 whole out at n k e = rw (e, lastDigits-all n, drop-drop)
 
 loop-holds : tie.Need-loop-holds Inv-loop μ-loop

@@ -7,26 +7,26 @@ use native.Mathlib.Numerals.{add-one}
 use native.Mathlib.Omega.{arith}
 use lib.ListN.{length, take, getD, set, length-set}
 use lib.Seq.{take-suc, take-all, length-take-le}
-use Rattle.lines.specs.Bytes.{onto}
-use Rattle.lines.proofs.Laws.Bytes.{onto-none, onto-set}
+use Rattle.keymap.specs.Buffers.{over}
+use Rattle.keymap.proofs.Laws.Buffers.{over-none, over-set}
 use Rattle.lines.proofs.writing.put_bytes.Statement.{statement}
 use Rattle.lines.proofs.writing.put_bytes.Tie as tie
 
 abbrev Inv-loop : tie.InvT-loop
-Inv-loop src out₀ i₀ out i = (i ≤ length src) × (length out ≡ length out₀) × (out ≡ onto (take i src) out₀)
+Inv-loop src out₀ i₀ out i = (i ≤ length src) × (length out ≡ length out₀) × (out ≡ over (take i src) out₀)
 
 abbrev μ-loop : tie.MeasureT-loop
 μ-loop src out₀ i₀ out i = length src - i
 
-turn : (src out₀ out : List ℕ) (i : ℕ) → i < length src → i < length out₀ → out ≡ onto (take i src) out₀
-    → set out i (getD src i 0) ≡ onto (take (i + 1) src) out₀
+turn : (src out₀ out : List ℕ) (i : ℕ) → i < length src → i < length out₀ → out ≡ over (take i src) out₀
+    → set out i (getD src i 0) ≡ over (take (i + 1) src) out₀
 turn src out₀ out i h l e =
     ap (λ (o : List ℕ). set o i (getD src i 0)) e
-    ∙ onto-set (take i src) out₀ i (getD src i 0) (length-take-le i src (omega arith)) l
+    ∙ over-set (take i src) out₀ i (getD src i 0) (sym (length-take-le i src (omega arith))) l
     ∙ rw (add-one, take-suc src i 0 h)
 
 loop-holds : tie.Need-loop-holds Inv-loop μ-loop
-loop-holds c = (omega arith, refl, sym (onto-none (c .args .out .now)))
+loop-holds c = (omega arith, refl, sym (over-none (c .args .out .now)))
 
 shared-slice-read-out : tie.Need-shared-slice-read-out Inv-loop μ-loop
 shared-slice-read-out c = omega arith
@@ -56,7 +56,7 @@ same-length c = c .before .loop .inv .1
 returns : tie.Need-returns Inv-loop μ-loop
 returns c =
     let a = c .before .before .args in
-    c .before .loop .inv .2 ∙ ap (λ (s : List ℕ). onto s (a .out .now)) (take-all (c .before .loop .i) (a .src .now) (c .loop-test .left))
+    c .before .loop .inv .2 ∙ ap (λ (s : List ℕ). over s (a .out .now)) (take-all (c .before .loop .i) (a .src .now) (c .loop-test .left))
 
 pub put-bytes-spec : {M : Type 1} → statement M
 put-bytes-spec =

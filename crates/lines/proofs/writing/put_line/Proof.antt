@@ -1,33 +1,34 @@
 -- `lines::writing::put_line` meets its contract: each call and each store makes the text at the buffer's start longer by what it puts. Assumes nothing.
-use mathlib.Core.Path.{_≡_, refl, ap, _∙_}
+use mathlib.Core.Path.{_≡_, refl, ap, _∙_, sym}
 use mathlib.Core.List.{List, [], _∷_, _++_, append-assoc}
 use Prim.Native.Nat.{ℕ, _+_, _≤_}
 use native.Mathlib.Omega.{arith}
 use lib.ListN.{length, take, drop, set, length-append, length-set}
 use borrow.Author.Needs.{needs}
-use Rattle.lines.specs.Bytes.{tab, lineFeed, onto}
+use Rattle.keymap.specs.Buffers.{over}
+use Rattle.lines.specs.Bytes.{tab, lineFeed}
 use Rattle.lines.specs.Decimal.{decimal}
 use Rattle.lines.specs.Writing.{tabLine, tabText}
-use Rattle.lines.proofs.Laws.Bytes.{onto-set, onto-behind}
+use Rattle.keymap.proofs.Laws.Buffers.{over-set, over-behind}
 use Rattle.lines.proofs.Laws.Writing.{length-tabText}
 use Rattle.lines.proofs.writing.put_line.Statement.{statement}
 use Rattle.lines.proofs.writing.put_line.Tie as tie
 
-put : (key keyed numbered out : List ℕ) (n d : ℕ) → d ≡ length (decimal n) → length (tabText (key, n)) ≤ length out → keyed ≡ onto key out
-    → numbered ≡ take (length key + 1) (set keyed (length key) tab) ++ onto (decimal n) (drop (length key + 1) (set keyed (length key) tab))
-    → set numbered (length key + 1 + d) lineFeed ≡ onto (tabText (key, n)) out
+put : (key keyed numbered out : List ℕ) (n d : ℕ) → d ≡ length (decimal n) → length (tabText (key, n)) ≤ length out → keyed ≡ over key out
+    → numbered ≡ take (length key + 1) (set keyed (length key) tab) ++ over (decimal n) (drop (length key + 1) (set keyed (length key) tab))
+    → set numbered (length key + 1 + d) lineFeed ≡ over (tabText (key, n)) out
 unfolding tabText tabLine
 put key keyed numbered out n d e h p q =
     let fits : length key + length (decimal n) + 2 ≤ length out = omega (arith, length-tabText (key, n)) in
-    let tabbed : set keyed (length key) tab ≡ onto (key ++ (tab ∷ [])) out =
-    ap (λ (o : List ℕ). set o (length key) tab) p ∙ onto-set key out (length key) tab refl (omega arith) in
+    let tabbed : set keyed (length key) tab ≡ over (key ++ (tab ∷ [])) out =
+    ap (λ (o : List ℕ). set o (length key) tab) p ∙ over-set key out (length key) tab refl (omega arith) in
     let wide : length (key ++ (tab ∷ [])) ≡ length key + 1 = length-append key (tab ∷ []) in
-    let digits : numbered ≡ onto ((key ++ (tab ∷ [])) ++ decimal n) out =
-    q ∙ rw tabbed (onto-behind (key ++ (tab ∷ [])) (decimal n) out (length key + 1) wide) in
+    let digits : numbered ≡ over ((key ++ (tab ∷ [])) ++ decimal n) out =
+    q ∙ rw tabbed (over-behind (key ++ (tab ∷ [])) (decimal n) out (length key + 1) wide) in
     let whole : length ((key ++ (tab ∷ [])) ++ decimal n) ≡ length key + 1 + d = length-append (key ++ (tab ∷ [])) (decimal n) ∙ omega arith in
     ap (λ (o : List ℕ). set o (length key + 1 + d) lineFeed) digits
-    ∙ onto-set ((key ++ (tab ∷ [])) ++ decimal n) out (length key + 1 + d) lineFeed whole (omega arith)
-    ∙ ap (λ (t : List ℕ). onto (t ++ (lineFeed ∷ [])) out) (append-assoc key (tab ∷ []) (decimal n))
+    ∙ over-set ((key ++ (tab ∷ [])) ++ decimal n) out (length key + 1 + d) lineFeed (sym whole) (omega arith)
+    ∙ ap (λ (t : List ℕ). over (t ++ (lineFeed ∷ [])) out) (append-assoc key (tab ∷ []) (decimal n))
 
 put-bytes-requires : tie.Need-put-bytes-requires
 put-bytes-requires c κs =

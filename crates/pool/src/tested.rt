@@ -1,4 +1,4 @@
-// What the public calls do once a pool is tested, so that a loop over many entries tests it once.
+// What the public calls do once a pool is tested: they ask for a sound pool, and leave one.
 use crate::answers::Pushed;
 use crate::path::enter_all;
 use crate::path::reach_of;

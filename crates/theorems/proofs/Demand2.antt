@@ -50,7 +50,7 @@ use Rattle.trie.specs.Places.{resumeSays, valueSays, prefixLenSays, prefixSays,
 use Rattle.trie.proofs.Laws.Image.{words-are}
 use Rattle.trie.proofs.Laws.Exact.{exactSays-accepted, isPrefixSays-accepted, setValues-absent, setValue-means-insert, setValue-keeps-image}
 use Rattle.trie.proofs.Laws.CommonPrefixes.{commonSays-accepted}
-use Rattle.trie.proofs.Laws.Cursors.{setOf-rising, setOf-in, top-node, belongs-at, stepSays-finished}
+use Rattle.trie.proofs.Laws.Cursors.{startSays-accepted, setOf-rising, setOf-in, top-node, belongs-at, stepSays-finished}
 use Rattle.theorems.specs.Demand2.{AtPath, NoPlace, listedKey, Searches, setInMap, setInImage, setAll, setAllIn, AllSmall, EveryMap, EveryBuild}
 use Rattle.theorems.proofs.Listing.{listing-is}
 use Rattle.theorems.proofs.Demand3.{every-history}
@@ -146,6 +146,7 @@ module _ (i : Image) (h : MapImage i) where
     is-prefix = λ q. isPrefixSays-accepted i q test;
     longest-prefix = λ q out. (rw test, rw test);
     common-prefix = λ q seen. (commonSays-accepted i q seen test, rw test);
+    start = λ kind q. startSays-accepted i kind q test;
     listing = λ k kind q. listing-is i h kind q k;
     rises = λ kind q. setOf-rising m (h .catalogue .rising) kind q;
     predictive = λ q e. beginning-iff q m e;

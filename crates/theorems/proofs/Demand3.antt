@@ -93,10 +93,11 @@ module _ (p : Pool) (h : recordWords ≤ length p) (cs : List Call) (lent : AllL
       (subst (λ (k : Key). spelling.Spells (poolAfter p cs) 0 k d) (sym e) (path-spells (poolAfter p cs) sound d (inr v)))
 
   scratch : (n : ℕ) (ls vs ws qs : List ℕ) → buildSays (poolAfter p cs) ls vs ws qs ≡ 0 ∷ n ∷ [] → (j : ℕ) → j < n
-      → spelling.pathOf (poolAfter p cs) (getD (buildScratch (poolAfter p cs) ls vs ws qs) j 0) ≡ pathOf (mapAfter p cs) (suc (suc j))
+      → InUse (poolAfter p cs) (getD (buildScratch (poolAfter p cs) ls vs ws qs) j 0) × (spelling.pathOf (poolAfter p cs) (getD (buildScratch (poolAfter p cs) ls vs ws qs) j 0) ≡ pathOf (mapAfter p cs) (suc (suc j)))
   scratch n ls vs ws qs e j l =
       let many : n ≡ usedCount (poolAfter p cs) = builds n ls vs ws qs e .0 ∙ ap (λ (m : Map). length (prefixes m)) (sym holds) ∙ count-prefixes (poolAfter p cs) sound in
-      scratch-node (poolAfter p cs) sound ls vs ws qs (ap accepted e) j (omega arith) ∙ ap (λ (m : Map). pathOf m (suc (suc j))) holds
+      let (used, path) = scratch-node (poolAfter p cs) sound ls vs ws qs (ap accepted e) j (omega arith) in
+      (used, path ∙ ap (λ (m : Map). pathOf m (suc (suc j))) holds)
 
 pub every-history : EveryHistory
 every-history p h cs lent =

@@ -19,7 +19,7 @@ use Rattle.keymap.specs.Members.{In}
 use Rattle.keymap.specs.Key.{Key, PrefixOf}
 use Rattle.keymap.specs.Refusals.{Refusal, refusalNumber}
 use Rattle.keymap.specs.Map.{Entry, Map, Rising, Catalogue, insert, lookup}
-use Rattle.keymap.specs.Queries.{isPrefixIn, longestPrefixIn, commonPrefixIn}
+use Rattle.keymap.specs.Queries.{nonempty, isPrefixIn, longestPrefixIn, commonPrefixIn}
 use Rattle.keymap.specs.Prefixes.{prefixes}
 use Rattle.keymap.specs.Bits.{pack}
 use Rattle.keymap.specs.Forest.{treeOf}
@@ -34,11 +34,11 @@ use Rattle.trie.specs.declared.Kind.{Kind}
 use Rattle.trie.specs.declared.Kind.the-variants.{Predictive, Postfix}
 use Rattle.trie.specs.declared.Cursor.{Cursor}
 use Rattle.trie.specs.declared.Cursor.the-variants.{Open, Finished}
-use Rattle.trie.specs.Answers.{saysValue, saysFlag}
+use Rattle.trie.specs.Answers.{saysValue, saysFlag, saidCursor}
 use Rattle.trie.specs.Exact.{exactSays, setValues, isPrefixSays}
 use Rattle.trie.specs.Prefix.{saysWritten, writtenTo, saysLongest, writtenLongest, longestSays, longestOut}
 use Rattle.trie.specs.CommonPrefixes.{saysCommon, commonSays, partOf, commonPart}
-use Rattle.trie.specs.Cursors.{given, setOf, belongs, onCursor, saysEnd, stepIn, stepSays}
+use Rattle.trie.specs.Cursors.{given, setOf, belongs, onCursor, startSays, saysEnd, stepIn, stepSays}
 use Rattle.trie.specs.GivenKey.{keyOf, saysKey, writtenKey, keySays, keyOut}
 use Rattle.trie.specs.Incremental.{queryIn, querySays, queryMoves, walkable, followIn, followSays, followMoves, commonBelow, gotoIn, gotoSays, gotoMoves}
 use Rattle.trie.specs.Places.{resumeSays, valueSays, prefixLenSays, prefixSays, prefixOut}
@@ -91,6 +91,8 @@ pub record Searches (m : Map) (i : Image) : Type 0 where
   pub longest-prefix : (q : Key) (out : List ℕ) → (longestSays i q out ≡ saysLongest (longestPrefixIn q m) out) × (longestOut i q out ≡ writtenLongest (longestPrefixIn q m) out)
   -- "the shortest key longer than that and a prefix of the query", and "that leading part of the query itself"
   pub common-prefix : (q : Key) (seen : ℕ) → (commonSays i q seen ≡ saysCommon (commonPrefixIn q seen m)) × (commonPart i q seen ≡ partOf q (commonPrefixIn q seen m))
+  -- "no path gives a finished cursor, and so does an empty set"
+  pub start : (kind : Kind) (q : Key) → startSays kind i q ≡ 0 ∷ saidCursor (cond (nonempty (setOf m kind q)) (Open kind (nodeOf m q) 0) (Finished kind))
   -- a start and any number of steps give the listing's entries in turn, and then the end each time
   pub listing : (k : ℕ) (kind : Kind) (q : Key) → listingSays k kind i q ≡ listingIn k m kind q
   -- "listings name each match once, in rising byte order"

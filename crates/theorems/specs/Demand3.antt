@@ -50,7 +50,7 @@ pub record Demand3 (p : Pool) (cs : List Call) : Type 0 where
       → (n ≡ length (prefixes (mapAfter p cs))) × (builtImage n (poolAfter p cs) ls vs ws qs ≡ image (mapAfter p cs))
   -- of the scratch slice "entry j of it ends holding the record number of node j+2"
   pub scratch : (n : ℕ) (ls vs ws qs : List ℕ) → buildSays (poolAfter p cs) ls vs ws qs ≡ 0 ∷ n ∷ [] → (j : ℕ) → j < n
-      → spelling.pathOf (poolAfter p cs) (getD (buildScratch (poolAfter p cs) ls vs ws qs) j 0) ≡ pathOf (mapAfter p cs) (suc (suc j))
+      → InUse (poolAfter p cs) (getD (buildScratch (poolAfter p cs) ls vs ws qs) j 0) × (spelling.pathOf (poolAfter p cs) (getD (buildScratch (poolAfter p cs) ls vs ws qs) j 0) ≡ pathOf (mapAfter p cs) (suc (suc j)))
 
 -- any pool of 5 words or more, any history of what can be lent
 abbrev pub EveryHistory : Type 0

@@ -2,7 +2,7 @@
 -- children of the root and of each in turn, and a rule that is always ahead of what it has used makes one list only.
 --
 --     level-paths      the paths of the records in level order are the prefixes of the pool's map, in breadth-first order
---     scratch-node     so the record that an accepted build leaves at entry j of the scratch slice has the path of node j + 2
+--     scratch-node     so what an accepted build leaves at entry j of the scratch slice is the record in use that has the path of node j + 2
 -- Assumes nothing.
 use Prim.Native.Nat.{ℕ, zero, suc, _+_, _≤_, _<_}
 use mathlib.Core.Path.{_≡_, refl, sym, ap, ap₂, _∙_, subst}
@@ -36,7 +36,7 @@ use Rattle.keymap.specs.Buffers.{over}
 use Rattle.image.specs.Build.{buildSays, buildScratch}
 use Rattle.image.specs.LevelOrder.{childRecords, levelRecords}
 use Rattle.keymap.proofs.Laws.Buffers.{getD-over}
-use Rattle.image.proofs.Laws.LevelOrder.{child-records, level-law, level-count, level-used, queued, queued-ahead}
+use Rattle.image.proofs.Laws.LevelOrder.{child-records, getD-in, level-law, level-count, level-used, queued, queued-ahead}
 
 -- ---- one list only
 
@@ -178,14 +178,15 @@ module _ (p : Pool) (s : Sound p) where
 
   -- "entry j of it ends holding the record number of node j+2"
   pub scratch-node : (ls vs ws qs : List ℕ) → accepted (buildSays p ls vs ws qs) ≡ true → (j : ℕ) → j < usedCount p
-      → pathOf p (getD (buildScratch p ls vs ws qs) j 0) ≡ paths.pathOf (poolMap p) (suc (suc j))
+      → InUse p (getD (buildScratch p ls vs ws qs) j 0) × (pathOf p (getD (buildScratch p ls vs ws qs) j 0) ≡ paths.pathOf (poolMap p) (suc (suc j)))
   unfolding buildScratch paths.pathOf paths.nodes
   scratch-node ls vs ws qs e j h =
       let inside : j < length (levelRecords p) = omega (arith, level-count p s) in
-      ap (λ (b : Bool). pathOf p (getD (cond b (over (levelRecords p) qs) qs) j 0)) e
-      ∙ ap (pathOf p) (getD-over (levelRecords p) qs j inside)
-      ∙ sym (getD-mapped (levelRecords p) j inside)
-      ∙ ap (λ (l : List Key). getD l j []) level-paths
+      let at : getD (cond (accepted (buildSays p ls vs ws qs)) (over (levelRecords p) qs) qs) j 0 ≡ getD (levelRecords p) j 0 =
+      ap (λ (b : Bool). getD (cond b (over (levelRecords p) qs) qs) j 0) e ∙ getD-over (levelRecords p) qs j inside in (
+        subst (InUse p) (sym at) (level-used p s (getD (levelRecords p) j 0) (getD-in (levelRecords p) j inside)),
+        ap (pathOf p) at ∙ sym (getD-mapped (levelRecords p) j inside) ∙ ap (λ (l : List Key). getD l j []) level-paths,
+      )
     where
       getD-mapped : (cs : List ℕ) (i : ℕ) → i < length cs → getD (map (pathOf p) cs) i [] ≡ pathOf p (getD cs i 0)
       getD-mapped [] i l = absurd (omega arith)

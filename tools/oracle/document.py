@@ -593,7 +593,7 @@ def lengths_of_pools(book):
 
 
 def deepest_chain(book):
-    """The searches on the image of the one key of 4,096 bytes. A walk down or up all of it is slow, so these stay near one end."""
+    """The searches on the image of the one key of 4,096 bytes, from one end to the other."""
     book.is_prefix(b"a" * 50)
     book.common_after(b"a" * 50, 0)
     for place in (0, 4098, LARGEST, 4097):
@@ -603,9 +603,18 @@ def deepest_chain(book):
     book.goto()
     book.stand_at(4096)
     book.goto()
-    book.cursor_at(0, 4096, 0)
-    book.step()
-    book.step()
+    book.stand_at(1)
+    book.goto()
+    book.prefix_into(4095)
+    book.prefix_into(4096)
+    book.longest_prefix(b"a", 4095)
+    book.longest_prefix(b"a", 4096)
+    for kind, top in ((0, 4096), (0, 1), (1, 2)):
+        book.cursor_at(kind, top, 0)
+        book.step()
+        book.cursor_key(4094)
+        book.cursor_key(4096)
+        book.step()
 
 
 def capacity_of_three(book):

@@ -9,7 +9,9 @@ use mathlib.Core.List.{List, [], _∷_}
 use lib.ListN.{length, take}
 use Rattle.keymap.specs.Map.{Map, insertAll}
 use Rattle.keymap.specs.Prefixes.{prefixes}
-use Rattle.records.specs.Words.{Pool}
+use Rattle.keymap.specs.Bits.{wordsFor}
+use Rattle.keymap.specs.Image.{bitsFor}
+use Rattle.records.specs.Words.{Pool, recordWords}
 use Rattle.image.specs.Build.{buildSays, buildLabels, buildValues, buildWords}
 use Rattle.image.specs.Meaning.{lent}
 use Rattle.lines.specs.Text.{entryLines}
@@ -24,11 +26,11 @@ programCapacity = 2048
 
 -- five words for each record, the root's among them
 abbrev pub poolLength : ℕ
-poolLength = 5 * (programCapacity + 1)
+poolLength = recordWords * (programCapacity + 1)
 
--- the words of 2 * 2,048 + 3 bits
+-- enough for an image of as many nodes
 abbrev pub wordsLength : ℕ
-wordsLength = 65
+wordsLength = wordsFor (bitsFor programCapacity)
 
 -- the longest key, TAB, ten digits and LF
 abbrev pub lineLength : ℕ

@@ -2,11 +2,12 @@
 ghost use mathlib.Core.Path.{_≡_};
 ghost use Prim.Native.Nat.{_+_, _≤_};
 ghost use mathlib.Core.List.{[], _∷_};
-ghost use lib.ListN.{drop};
+ghost use lib.ListN.{length, drop};
 ghost use Rattle.pool.specs.Answers.{saidPushed};
 ghost use Rattle.lines.specs.TabLine.{tabEntry};
 ghost use Rattle.lines.specs.Text.{linesOf, entryLines};
 ghost use Rattle.catalogue.specs.Filling.{saidFilled, lineSays, linePool, fillFrom, leftFrom, fillSays, fillPool, fileSays, filePool};
+ghost use Rattle.catalogue.specs.Program.{poolLength};
 use lines::answers::Cut;
 use lines::answers::Parsed;
 use pool::answers::Pushed;
@@ -25,6 +26,7 @@ pub enum Filled {
 
 // Resets the pool and pushes the lines of a text that is not too long.
 pub fn fill(text: &[u8], pool: &mut [u32]) -> Filled
+    requires { ⌜ length (now pool) ≡ poolLength ⌝ }
     ensures answer { λ r. ⌜ saidFilled r ≡ fileSays (now (pool .entry)) (now (text .entry)) ⌝ }
     ensures left { λ _. ⌜ now (pool .exit) ≡ filePool (now (pool .entry)) (now (text .entry)) ⌝ }
 {

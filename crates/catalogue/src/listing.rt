@@ -3,6 +3,8 @@ ghost use mathlib.Core.Path.{_≡_};
 ghost use Rattle.keymap.specs.Decode.{imageMap};
 ghost use Rattle.image.specs.Meaning.{lent, MapImage};
 ghost use Rattle.trie.specs.GivenKey.{keyOut};
+ghost use lib.ListN.{length};
+ghost use Rattle.catalogue.specs.Program.{programCapacity, wordsLength, lineLength};
 ghost use Rattle.catalogue.specs.Listing.{saidListed, listSays, listKey, listLine, givenSays, givenLine, WholeIf};
 use crate::printing::say;
 use image::answers::Built;
@@ -126,7 +128,14 @@ pub fn write_pool(
     scratch: &mut [u32],
     key: &mut [u8],
     line: &mut [u8],
-) {
+)
+    requires { ⌜ length (now labels) ≡ programCapacity ⌝ }
+    requires { ⌜ length (now values) ≡ programCapacity ⌝ }
+    requires { ⌜ length (now words) ≡ wordsLength ⌝ }
+    requires { ⌜ length (now scratch) ≡ programCapacity ⌝ }
+    requires { ⌜ length (now key) ≡ programCapacity ⌝ }
+    requires { ⌜ length (now line) ≡ lineLength ⌝ }
+{
     match image::build(pool, labels, values, words, scratch) {
         Built::Nodes(n) => {
             // 2n + 3 bits in words of 64.

@@ -5,6 +5,7 @@ mod listing;
 mod printing;
 mod reading;
 
+use filling::FILE_LIMIT;
 use filling::Filled;
 use filling::fill;
 use listing::write_pool;
@@ -12,24 +13,25 @@ use printing::say;
 use printing::say_refused;
 use reading::Reading;
 use reading::read_file;
+use records::words::RECORD_WORDS;
 
 // The longest file and one byte more, so that a longer one is seen.
-const FILE_ROOM: usize = 65537;
+const FILE_ROOM: usize = FILE_LIMIT + 1;
 
 // The records besides the root.
 const CAPACITY: usize = 2048;
 
 // Five words for each record, the root's among them.
-const POOL_WORDS: usize = 10245;
+const POOL_WORDS: usize = RECORD_WORDS * (CAPACITY + 1);
 
 // The words of 2 * CAPACITY + 3 bits.
-const IMAGE_WORDS: usize = 65;
+const IMAGE_WORDS: usize = (2 * CAPACITY + 66) / 64;
 
 // The longest key has a record for each byte.
 const KEY_ROOM: usize = CAPACITY;
 
 // The longest key, TAB, ten digits, LF.
-const LINE_ROOM: usize = 2060;
+const LINE_ROOM: usize = CAPACITY + 12;
 
 fn main() {
     let mut text = [0u8; FILE_ROOM];

@@ -1,5 +1,7 @@
 // A file's bytes. A read that fails is told from the file's end, which `io::read_full` does not do.
+ghost use Prim.Native.Nat.{_<_};
 ghost use lib.ListN.{length};
+ghost use Rattle.catalogue.specs.Filling.{fileLimit};
 ghost use Rattle.catalogue.specs.Reading.{Within};
 
 pub enum Reading {
@@ -9,7 +11,9 @@ pub enum Reading {
     NoFile,
 }
 
+// The room is longer than the longest text that is taken, so that a longer file is seen to be one.
 pub fn read_file(name: &[u8], room: &mut [u8]) -> Reading
+    requires { ⌜ fileLimit < length (now room) ⌝ }
     ensures { λ r. ⌜ Within (now (room .exit)) r ⌝ }
 {
     let fd = os::open_read(name);

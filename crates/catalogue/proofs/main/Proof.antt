@@ -1,5 +1,6 @@
 -- `catalogue::main` is safe and ends: what was read stands within the room. Assumes nothing.
 use mathlib.Core.Path.{subst}
+use native.Mathlib.Omega.{arith}
 use borrow.Author.Needs.{needs}
 use Rattle.catalogue.specs.Reading.{Within}
 use Rattle.catalogue.proofs.main.Statement.{statement}
@@ -12,7 +13,7 @@ slice-aggregate-read-file-2 : tie.Need-slice-aggregate-read-file-2
 slice-aggregate-read-file-2 c = search needs
 
 read-file-requires : tie.Need-read-file-requires
-read-file-requires c κs = search needs
+read-file-requires c κs = omega arith
 
 enum-known-length : tie.Need-enum-known-length
 enum-known-length c = search needs
@@ -39,7 +40,7 @@ slice-aggregate-fill-2 : tie.Need-slice-aggregate-fill-2
 slice-aggregate-fill-2 c = search needs
 
 fill-requires : tie.Need-fill-requires
-fill-requires c κs = search needs
+fill-requires c κs = omega arith
 
 enum-told-2 : tie.Need-enum-told-2
 enum-told-2 c = search needs

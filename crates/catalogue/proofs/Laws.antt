@@ -5,5 +5,7 @@ pub mod Count
 pub mod GivenLine
 pub mod Next
 pub mod Listing
+pub mod Standing
+pub mod Rooms
 pub mod WholeListing
 pub mod Program

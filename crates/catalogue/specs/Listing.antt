@@ -7,15 +7,16 @@
 --     listKey, listLine     and what it leaves of the key's room and of the line's: the line begins with the entry's text
 --     givenSays, givenLine  the same of an entry that a cursor gave last
 --     restOf                the entries that a listing has still to give
+--     LineOf                a text is that of entry j of a map, from 0
 --     WholeIf               what `write_listing` tells
 --     Lists                 a start and calls of `list_next`, each on the cursor and the rooms that the one before it left; `written` is what they write
 -- Assumes nothing.
-use Prim.Native.Nat.{ℕ, zero, suc}
+use Prim.Native.Nat.{ℕ, zero, suc, _<_}
 use mathlib.Core.Path.{_≡_}
 use mathlib.Core.Bool.{cond}
-use mathlib.Core.List.{List, [], _∷_, _++_}
+use mathlib.Core.List.{List, [], _∷_, _++_, head?}
 use mathlib.Core.Option.{Option, none, some}
-use lib.ListN.{length, take}
+use lib.ListN.{length, take, drop}
 use lib.Dec.{leb, ltb}
 use Rattle.keymap.specs.Key.{Key, isBelow}
 use Rattle.keymap.specs.Map.{Entry, Map}
@@ -118,10 +119,14 @@ abbrev pub restOf : Map → Cursor → Map
 restOf m (Open kind top last) = restIn m (setOf m kind (pathOf m top)) last
 restOf m (Finished kind) = []
 
--- a listing that came to its end has a line for each entry
+abbrev pub LineOf : Map → ℕ → List ℕ → Type 0
+LineOf m j text = (e : Entry) × (head? (drop j m) ≡ some e) × (text ≡ tabText e)
+
+-- a listing that came to its end has a line for each entry, and one whose write failed has fewer; no call refuses
 abbrev pub WholeIf : Map → Wrote → Type 0
 WholeIf m (Wrote.Lines n) = n ≡ length m
-WholeIf m Wrote.Stopped = Unit {0}
+WholeIf m (Wrote.Stopped n) = n < length m
+WholeIf m Wrote.Refused = ⊥
 
 -- the cursor to go on with: nothing follows the end or a refusal
 abbrev pub cursorAfter : Listed → Cursor → Cursor

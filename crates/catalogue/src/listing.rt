@@ -3,9 +3,10 @@ ghost use mathlib.Core.Path.{_≡_};
 ghost use Rattle.keymap.specs.Decode.{imageMap};
 ghost use Rattle.image.specs.Meaning.{lent, MapImage};
 ghost use Rattle.trie.specs.GivenKey.{keyOut};
+ghost use Prim.Native.Nat.{_≤_};
 ghost use lib.ListN.{length};
 ghost use Rattle.catalogue.specs.Program.{programCapacity, wordsLength, lineLength};
-ghost use Rattle.catalogue.specs.Listing.{saidListed, listSays, listKey, listLine, givenSays, givenLine, WholeIf};
+ghost use Rattle.catalogue.specs.Listing.{saidListed, listSays, listKey, listLine, givenSays, givenLine, LineOf, WholeIf};
 use crate::printing::say;
 use image::answers::Built;
 use lines::answers::Written;
@@ -31,8 +32,10 @@ pub enum Listed {
 pub enum Wrote {
     // It came to its end, after so many lines.
     Lines(usize),
-    // A write failed, or a call refused.
-    Stopped,
+    // A write failed, after so many lines.
+    Stopped(usize),
+    // A call refused. The contracts show that this is never answered.
+    Refused,
 }
 
 // The line of the next entry of a listing.
@@ -88,7 +91,14 @@ fn write_next(
     }
 }
 
-// Writes the listing of an image, up to a write that fails.
+// Writes the line of entry `at` of an image's map, counted from 0: whether all of it was written. The image and the number are there for the contract, so that nothing but that line is handed over.
+fn say_entry(labels: &[u16], values: &[u32], words: &[u64], at: usize, text: &[u8]) -> bool
+    requires { ⌜ LineOf (imageMap (lent (now labels) (now values) (now words))) at (now text) ⌝ }
+{
+    say(text)
+}
+
+// Writes the listing of an image, line by line, up to a write that fails.
 fn write_listing(
     labels: &[u16],
     values: &[u32],
@@ -97,24 +107,29 @@ fn write_listing(
     line: &mut [u8],
 ) -> Wrote
     requires { ⌜ MapImage (lent (now labels) (now values) (now words)) ⌝ }
+    requires { ⌜ length (now labels) ≤ programCapacity ⌝ }
+    requires { ⌜ length (now key) ≡ programCapacity ⌝ }
+    requires { ⌜ length (now line) ≡ lineLength ⌝ }
     ensures { λ r. ⌜ WholeIf (imageMap (lent (now (labels .entry)) (now (values .entry)) (now (words .entry)))) r ⌝ }
 {
     let Started::At(start) = trie::predictive_search(labels, values, words, b"") else {
-        return Wrote::Stopped;
+        return Wrote::Refused;
     };
     let mut cursor = start;
     let mut count = 0;
     loop {
         match list_next(labels, values, words, cursor, key, line) {
             Listed::Line { length, next } => {
-                if !say(&line[..length]) {
-                    return Wrote::Stopped;
+                if !say_entry(labels, values, words, count, &line[..length]) {
+                    return Wrote::Stopped(count);
                 }
                 cursor = next;
                 count += 1;
             }
             Listed::End => return Wrote::Lines(count),
-            _ => return Wrote::Stopped,
+            Listed::NotAnImage => return Wrote::Refused,
+            Listed::BadPlace => return Wrote::Refused,
+            Listed::KeyRoom => return Wrote::Refused,
         }
     }
 }

@@ -3,16 +3,13 @@
 --     list-refused, list-strange, list-ends, list-gives    `listSays`, `listKey` and `listLine` by cases
 --     list-said, list-ended      the same by a step's answer that gave nothing
 --     given-next                 what is said of the entry that a step gave
---     line-next                  what a line's answer tells: an entry less is left, and the line stands within its room; `end-next`: nothing is left at the end
 -- Assumes nothing.
 use mathlib.Core.Path.{_≡_, refl, sym, ap, _∙_}
-use Prim.Native.Nat.{ℕ, suc, _+_, _≤_}
+use Prim.Native.Nat.{ℕ}
 use native.Mathlib.Omega.{arith}
-use mathlib.Core.Bool.{Bool, true, false, cond}
-use mathlib.Core.List.{List, [], _∷_, _++_}
+use mathlib.Core.Bool.{Bool, true, false}
+use mathlib.Core.List.{List, [], _∷_}
 use mathlib.Core.Option.{Option, none, some}
-use lib.ListN.{length, drop, length-append}
-use lib.Dec.{leb, ltb}
 use Rattle.keymap.specs.Members.{In, here}
 use Rattle.keymap.specs.Key.{Key}
 use Rattle.keymap.specs.Map.{Entry, Map, Rising}
@@ -20,27 +17,22 @@ use Rattle.keymap.specs.Image.{Image}
 use Rattle.keymap.specs.Decode.{imageMap}
 use Rattle.keymap.specs.Paths.{pathOf, nodeOf}
 use Rattle.keymap.specs.Refusals.{Refusal, refusalNumber}
-use Rattle.keymap.proofs.Laws.Members.{head-none}
 use Rattle.image.specs.AcceptTest.{imageTest}
 use Rattle.image.specs.Meaning.{MapImage}
-use Rattle.image.proofs.Laws.Meaning.{mapImage-tested}
-use Rattle.keymap.specs.Buffers.{over}
-use Rattle.lines.specs.Writing.{tabText, writeLineOut}
 use Rattle.trie.specs.declared.Kind.the-variants as kinds
 use Rattle.trie.specs.declared.Cursor.{Cursor}
 use Rattle.trie.specs.declared.Cursor.the-variants.{Open, Finished}
 use Rattle.trie.specs.declared.Stepped.{Stepped}
 use Rattle.trie.specs.declared.Stepped.the-variants as stepped
 use Rattle.trie.specs.declared.Spelled.the-variants as spelled
-use Rattle.trie.specs.Answers.{saidCursor, saidStepped}
+use Rattle.trie.specs.Answers.{saidStepped}
 use Rattle.trie.specs.Prefix.{writtenTo}
 use Rattle.trie.specs.Cursors.{setOf, belongs, nextIn, saysStep, stepIn, stepSays}
 use Rattle.trie.specs.GivenKey.{keyOut}
-use Rattle.trie.proofs.Laws.Answers.{saidCursor-one, saidStepped-one}
-use Rattle.catalogue.specs.declared.listing.Listed.{Listed}
-use Rattle.catalogue.specs.Listing.{saidListed, nextEntry, nextCursor, shown, saysLine, lineWith, listSays, listed, listKey, listLine, givenSays, givenLine, restOf, written}
+use Rattle.trie.proofs.Laws.Answers.{saidStepped-one}
+use Rattle.catalogue.specs.Listing.{nextEntry, nextCursor, shown, saysLine, lineWith, listSays, listed, listKey, listLine, givenSays, givenLine, written}
 use Rattle.catalogue.proofs.Laws.GivenLine.{given-key}
-use Rattle.catalogue.proofs.Laws.Next.{next-head, next-belongs, next-key, shown-value, rest-step}
+use Rattle.catalogue.proofs.Laws.Next.{next-belongs, next-key, shown-value}
 
 -- ---- what a step answered
 
@@ -164,68 +156,3 @@ given-next i c n v next key line image h = go (step-view i c (stepped.Gave n v n
         let at : next ≡ nextCursor m c e = cc in
         let value : v ≡ e .1 = cc in
         rw (at, value) (at-next e t f g)
-
--- ---- what a line's answer tells
-
-pub record LineIs (i : Image) (c : Cursor) (key line : List ℕ) (n : ℕ) (next : Cursor) : Type 0 where
-  pub one-less : length (restOf (imageMap i) c) ≡ suc (length (restOf (imageMap i) next))
-  pub within : n ≤ length (listLine i c key line)
-
-pub line-next : (i : Image) → MapImage i → (c : Cursor) (key line : List ℕ) (n : ℕ) (next : Cursor) → saidListed (Listed.Line n next) ≡ listSays i c key line → LineIs i c key line n next
-unfolding writeLineOut over
-line-next i image c key line n next h = given (belongs (imageMap i) c) refl (nextEntry (imageMap i) c) refl
-  where
-    m : Map
-    m = imageMap i
-
-    tested : imageTest i ≡ true
-    tested = mapImage-tested i image
-
-    line-fits : (e : Entry) → belongs m c ≡ true → nextEntry m c ≡ some e
-        → (k : Bool) → leb (length (shown m c e .0)) (length key) ≡ k → (l : Bool) → ltb (length line) (length (tabText (shown m c e))) ≡ l → LineIs i c key line n next
-    line-fits e b g false k l w =
-        absurd (let q : 0 ∷ n ∷ saidCursor next ≡ 8 ∷ [] = h ∙ list-gives i c key line tested b e g .says-is ∙ rw k in let z : _≡_ {A = ℕ} 0 8 = cc in omega arith)
-    line-fits e b g true k true w =
-        absurd (let q : 0 ∷ n ∷ saidCursor next ≡ 8 ∷ [] = h ∙ list-gives i c key line tested b e g .says-is ∙ rw (k, w) in let z : _≡_ {A = ℕ} 0 8 = cc in omega arith)
-    line-fits e b g true k false w =
-        let lists = list-gives i c key line tested b e g in
-        let text : List ℕ = tabText (shown m c e) in
-        let q : 0 ∷ n ∷ saidCursor next ≡ 0 ∷ length text ∷ saidCursor (nextCursor m c e) = h ∙ lists .says-is ∙ rw (k, w) in
-        let long : n ≡ length text = cc in
-        let cursors : saidCursor next ≡ saidCursor (nextCursor m c e) = cc in
-        let same : next ≡ nextCursor m c e = saidCursor-one next (nextCursor m c e) cursors in
-        let after : listLine i c key line ≡ text ++ drop (length text) line = lists .line-is ∙ rw (k, w) in
-        let many : length (listLine i c key line) ≡ length text + length (drop (length text) line) = ap length after ∙ length-append text (drop (length text) line) in
-        let shorter : length (restOf m c) ≡ suc (length (restOf m (nextCursor m c e))) = ap length (rest-step m (image .catalogue .rising) c e g) in
-        record { one-less = rw same shorter; within = omega (arith, many) }
-
-    given : (b : Bool) → belongs m c ≡ b → (o : Option Entry) → nextEntry m c ≡ o → LineIs i c key line n next
-    given false b o g =
-        absurd (let q : 0 ∷ n ∷ saidCursor next ≡ 7 ∷ [] = h ∙ list-strange i c key line tested b .says-is in let z : _≡_ {A = ℕ} 0 7 = cc in omega arith)
-    given true b none g =
-        absurd (let q : 0 ∷ n ∷ saidCursor next ≡ 0 ∷ [] = h ∙ list-ends i c key line tested b g .says-is in let z : _≡_ {A = ℕ} 0 1 = cc in omega arith)
-    given true b (some e) g =
-        line-fits e b g (leb (length (shown m c e .0)) (length key)) refl (ltb (length line) (length (tabText (shown m c e)))) refl
-
--- the end is answered where nothing is left
-pub end-next : (i : Image) → MapImage i → (c : Cursor) (key line : List ℕ) → saidListed Listed.End ≡ listSays i c key line → restOf (imageMap i) c ≡ []
-end-next i image c key line h = given (belongs (imageMap i) c) refl (nextEntry (imageMap i) c) refl
-  where
-    m : Map
-    m = imageMap i
-
-    tested : imageTest i ≡ true
-    tested = mapImage-tested i image
-
-    line-told : (e : Entry) → (k l : Bool) → ¬ (0 ∷ [] ≡ cond k (cond l (8 ∷ []) (0 ∷ length (tabText (shown m c e)) ∷ saidCursor (nextCursor m c e))) (8 ∷ []))
-    line-told e false l q = let z : _≡_ {A = ℕ} 0 8 = cc in omega arith
-    line-told e true true q = let z : _≡_ {A = ℕ} 0 8 = cc in omega arith
-    line-told e true false q = let z : _≡_ {A = ℕ} 0 1 = cc in omega arith
-
-    given : (b : Bool) → belongs m c ≡ b → (o : Option Entry) → nextEntry m c ≡ o → restOf m c ≡ []
-    given false b o g = absurd (let q : 0 ∷ [] ≡ 7 ∷ [] = h ∙ list-strange i c key line tested b .says-is in let z : _≡_ {A = ℕ} 0 7 = cc in omega arith)
-    given true b none g = head-none (restOf m c) (sym (next-head m c) ∙ g)
-    given true b (some e) g =
-        absurd
-        (line-told e (leb (length (shown m c e .0)) (length key)) (ltb (length line) (length (tabText (shown m c e))))
-        (h ∙ list-gives i c key line tested b e g .says-is))

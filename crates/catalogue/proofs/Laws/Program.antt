@@ -3,8 +3,7 @@
 --
 --     program-writes    that, for every call that the program makes, from a pool and buffers of its lengths
 -- Assumes nothing.
-use mathlib.Core.Path.{_≡_, refl, sym, ap, subst, _∙_}
-use mathlib.Core.Logic.{inr}
+use mathlib.Core.Path.{_≡_, sym, ap, subst, _∙_}
 use Prim.Native.Nat.{ℕ, _+_, _*_, _/_, _≤_}
 use native.Mathlib.Omega.{arith}
 use mathlib.Core.List.{List, [], _∷_}
@@ -16,11 +15,8 @@ use Rattle.keymap.specs.Map.{Entry, Map, Catalogue, insert, insertAll}
 use Rattle.keymap.specs.Prefixes.{prefixes}
 use Rattle.keymap.specs.Image.{Image, image}
 use Rattle.keymap.specs.Decode.{imageMap}
-use Rattle.keymap.specs.Paths.{nodes, pathOf, nodeOf}
-use Rattle.keymap.proofs.Laws.Begins.{prefix-refl}
-use Rattle.keymap.proofs.Laws.Map.{insert-catalogue, proper-in}
+use Rattle.keymap.proofs.Laws.Map.{insert-catalogue}
 use Rattle.keymap.proofs.Laws.Image.{imageMap-image}
-use Rattle.keymap.proofs.Laws.Paths.{nodes-iff, nodeOf-node, pathOf-nodeOf}
 use Rattle.records.specs.Words.{Pool, recordWords, capacity}
 use Rattle.pool.specs.Reset.{resetPool}
 use Rattle.pool.proofs.Laws.Reset.{reset-sound, length-reset}
@@ -31,14 +27,15 @@ use Rattle.image.specs.Meaning.{lent, MapImage}
 use Rattle.image.proofs.Laws.History.{build-says}
 use Rattle.lines.specs.TabLine.{tabEntry}
 use Rattle.lines.specs.Text.{entryLines}
-use Rattle.lines.specs.Writing.{tabText, mapText}
-use Rattle.lines.proofs.Laws.Writing.{tabEntry-plain, length-tabText-most}
-use Rattle.trie.proofs.Laws.Spelling.{path-short}
+use Rattle.lines.specs.Writing.{mapText}
+use Rattle.lines.proofs.Laws.Writing.{tabEntry-plain}
 use Rattle.catalogue.specs.Filling.{fileLimit, fillSays, fileSays, filePool, entriesIn, AllEntries}
 use Rattle.catalogue.specs.Listing.{Lists, written}
 use Rattle.catalogue.specs.Program.{programCapacity, poolLength, wordsLength, lineLength, Writes}
 use Rattle.catalogue.proofs.Laws.Filling.{AllBytes, Holding, key-bytes, lines-bytes, file-short, reset-fills, fill-accepts}
 use Rattle.catalogue.proofs.Laws.Building.{map-image, built-image}
+use Rattle.catalogue.proofs.Laws.Standing.{Fit}
+use Rattle.catalogue.proofs.Laws.Rooms.{rooms-fit}
 use Rattle.catalogue.proofs.Laws.WholeListing.{lists-map}
 
 -- the entries of lines make a catalogue
@@ -47,15 +44,6 @@ unfolding entriesIn insertAll
 entries-catalogue [] m c b a = c
 entries-catalogue (l ∷ ls) m c b ((e, f, d), a) =
     rw f (entries-catalogue ls (insert (e .0) (e .1) m) (insert-catalogue (e .0) (e .1) m d (key-bytes l e f (b .0)) (tabEntry-plain l e f .value) c) (b .1) a)
-
--- no key is longer than there are prefixes
-key-short : (m : Map) → Catalogue m → (e : Entry) → In e m → length (e .0) ≤ length (prefixes m)
-unfolding nodes
-key-short m c e i =
-    let node : In (e .0) (nodes m) = nodes-iff m (e .0) .1 (inr (e, i, prefix-refl (e .0))) in
-    let inside = nodeOf-node m (e .0) node in
-    let same : length (pathOf m (nodeOf m (e .0))) ≡ length (e .0) = ap length (pathOf-nodeOf m (e .0) node) in
-    omega (arith, path-short m c (nodeOf m (e .0)) inside, inside .1, same)
 
 module _ (text : List ℕ) (bytes : Bytes text) (short : length text ≤ fileLimit) (entries : AllEntries (entryLines text))
     (few : length (prefixes (insertAll (entriesIn (entryLines text)) [])) ≤ programCapacity) (p : Pool) (size : length p ≡ poolLength) where
@@ -106,13 +94,8 @@ module _ (text : List ℕ) (bytes : Bytes text) (short : length text ≤ fileLim
     whole : MapImage (image m)
     whole = map-image m catalogue (omega (arith, few))
 
-    fits : (key line : List ℕ) → length key ≡ programCapacity → length line ≡ lineLength → (e : Entry) → In e (imageMap (image m))
-        → (length (e .0) ≤ length key) × (length (tabText e) ≤ length line)
-    fits key line k l e i =
-        let member : In e m = subst (λ (x : Map). In e x) (imageMap-image m catalogue) i in
-        let s = key-short m catalogue e member in
-        let proper = proper-in m (catalogue .proper) e member in
-        (omega (arith, s, few, k), omega (arith, s, few, l, length-tabText-most e (proper .2)))
+    fits : (key line : List ℕ) → length key ≡ programCapacity → length line ≡ lineLength → (e : Entry) → In e (imageMap (image m)) → Fit e key line
+    fits key line k l e i = rooms-fit m catalogue few key line k l e (subst (λ (x : Map). In e x) (imageMap-image m catalogue) i)
 
     pub program-writes : Writes p text ls vs ws qs
     program-writes =

@@ -1,20 +1,23 @@
--- `catalogue::listing::write_listing` meets its contract and ends: the lines written and the entries still to be given are together those of the map,
--- and each line takes an entry from the rest. Assumes nothing.
-use mathlib.Core.Path.{_≡_, sym, ap, _∙_}
-use Prim.Native.Nat.{_+_}
+-- `catalogue::listing::write_listing` meets its contract and ends: line after line, the cursor stands before the entry that has the number of lines written,
+-- so that what is written is that entry's text. Assumes nothing.
+use mathlib.Core.Path.{_≡_, sym, ap, subst, _∙_}
+use mathlib.Core.List.{List}
+use Prim.Native.Nat.{ℕ, _-_, _≤_}
 use native.Mathlib.Omega.{arith}
-use lib.ListN.{length}
+use lib.ListN.{length, take, drop}
 use lib.Seq.{length-take-le}
 use borrow.Author.Needs.{needs}
+use Rattle.keymap.specs.Members.{In}
+use Rattle.keymap.specs.Map.{Entry}
 use Rattle.keymap.specs.Image.{Image}
 use Rattle.keymap.specs.Decode.{imageMap}
 use Rattle.image.specs.Meaning.{lent}
 use Rattle.trie.specs.Answers.{saidStarted}
 use Rattle.trie.proofs.Laws.Image.{length-prefixes}
-use Rattle.catalogue.specs.Listing.{saidListed, restOf}
+use Rattle.catalogue.specs.Listing.{saidListed, LineOf}
 use Rattle.catalogue.proofs.Laws.Count.{keys-few}
-use Rattle.catalogue.proofs.Laws.Listing.{LineIs, line-next, end-next}
-use Rattle.catalogue.proofs.Laws.WholeListing.{start-rest}
+use Rattle.catalogue.proofs.Laws.Standing.{Stands, Fit, Tells, start-rest, start-told, line-told, end-told, refusal-told}
+use Rattle.catalogue.proofs.Laws.Rooms.{rooms-fit}
 use Rattle.catalogue.proofs.listing.write_listing.Statement.{statement}
 use Rattle.catalogue.proofs.listing.write_listing.Tie as tie
 
@@ -22,14 +25,21 @@ abbrev Inv-loop : tie.InvT-loop
 Inv-loop labels values words key₀ line₀ cursor₀ count₀ key line cursor count =
     (length key ≡ length key₀) ×
     (length line ≡ length line₀) ×
-    (count + length (restOf (imageMap (lent labels values words)) cursor) ≡ length (imageMap (lent labels values words)))
+    (count ≤ length (imageMap (lent labels values words))) ×
+    Stands (lent labels values words) cursor (drop count (imageMap (lent labels values words)))
 
 abbrev μ-loop : tie.MeasureT-loop
-μ-loop labels values words key₀ line₀ cursor₀ count₀ key line cursor count =
-    length (restOf (imageMap (lent labels values words)) cursor)
+μ-loop labels values words key₀ line₀ cursor₀ count₀ key line cursor count = length (imageMap (lent labels values words)) - count
 
 abbrev imageAt : tie.Start Inv-loop μ-loop → Image
 imageAt start = lent (start .args .labels .now) (start .args .values .now) (start .args .words .now)
+
+-- every entry has room
+fits : (s : tie.Start Inv-loop μ-loop) (key line : List ℕ) → length key ≡ length (s .args .key .now) → length line ≡ length (s .args .line .now)
+    → (e : Entry) → In e (imageMap (imageAt s)) → Fit e key line
+fits s key line k l =
+    let whole = s .pre .0 in
+    rooms-fit (imageMap (imageAt s)) (whole .catalogue) (omega (arith, length-prefixes (imageAt s) whole, s .pre .1 .0)) key line (k ∙ s .pre .1 .1 .0) (l ∙ s .pre .1 .1 .1)
 
 slice-aggregate-predictive-search : tie.Need-slice-aggregate-predictive-search Inv-loop μ-loop
 slice-aggregate-predictive-search c = search needs
@@ -44,13 +54,12 @@ enum-told : tie.Need-enum-told Inv-loop μ-loop
 enum-told c = search needs
 
 returns : tie.Need-returns Inv-loop μ-loop
-returns c = search needs
+returns c = start-told (imageAt (c .before .before .before .before .before .before .before .before .before)) (c .before .before .before .before .before .before .before .before .before .pre .0) (ap saidStarted (sym (c .enum-told .given .1)) ∙ c .before .before .predictive-search .ensures)
 
 loop-holds : tie.Need-loop-holds Inv-loop μ-loop
 loop-holds c =
-    let begins = start-rest (imageAt (c .before .before .before .before .before .before .before .before .before .before)) (c .before .before .before .before .before .before .before .before .before .before .pre) (c .before .start .given .0 .0) (ap saidStarted (sym (c .before .start .given .1)) ∙ c .before .before .before .predictive-search .ensures) in
-    let all = ap length (begins .rest-is) in
-    (search needs, search needs, omega (arith, all))
+    let begins = start-rest (imageAt (c .before .before .before .before .before .before .before .before .before .before)) (c .before .before .before .before .before .before .before .before .before .before .pre .0) (c .before .start .given .0 .0) (ap saidStarted (sym (c .before .start .given .1)) ∙ c .before .before .before .predictive-search .ensures) in
+    (search needs, search needs, omega arith, begins)
 
 list-next-requires : tie.Need-list-next-requires Inv-loop μ-loop
 list-next-requires c κs = search needs
@@ -59,17 +68,23 @@ enum-known-length : tie.Need-enum-known-length Inv-loop μ-loop
 enum-known-length c = search needs
 
 -- the line that was given
-line-of : (c : tie.After-known-told2 Inv-loop μ-loop) → LineIs (imageAt (c .before .before .before .before .before .before .before .before .before .before .before .before .before .before .before .before .before .before .before .before .before)) (c .before .before .before .before .before .before .before .before .before .before .loop .cursor) (c .before .before .before .before .before .before .before .before .before .before .loop .key) (c .before .before .before .before .before .before .before .before .before .before .loop .line) (c .before .length .given .0 .0) (c .before .length .given .0 .1 .0)
-line-of c = line-next (imageAt (c .before .before .before .before .before .before .before .before .before .before .before .before .before .before .before .before .before .before .before .before .before)) (c .before .before .before .before .before .before .before .before .before .before .before .before .before .before .before .before .before .before .before .before .before .pre) _ _ _ _ _ (ap saidListed (sym (c .before .length .given .1)) ∙ c .before .before .before .before .before .before .before .list-next .ensures .0)
+line-of : (c : tie.After-known-told2 Inv-loop μ-loop) → Tells (imageAt (c .before .before .before .before .before .before .before .before .before .before .before .before .before .before .before .before .before .before .before .before .before)) (c .before .before .before .before .before .before .before .before .before .before .loop .cursor) (c .before .before .before .before .before .before .before .before .before .before .loop .key) (c .before .before .before .before .before .before .before .before .before .before .loop .line) (c .before .before .before .before .before .before .before .before .before .before .loop .count) (c .before .length .given .0 .0) (c .before .length .given .0 .1 .0)
+line-of c =
+    let i = c .before .before .before .before .before .before .before .before .before .before .loop in
+    line-told (imageAt (c .before .before .before .before .before .before .before .before .before .before .before .before .before .before .before .before .before .before .before .before .before)) (c .before .before .before .before .before .before .before .before .before .before .before .before .before .before .before .before .before .before .before .before .before .pre .0) (i .cursor) (i .key) (i .line) (fits (c .before .before .before .before .before .before .before .before .before .before .before .before .before .before .before .before .before .before .before .before .before) (i .key) (i .line) (i .inv .0) (i .inv .1)) (i .count) (i .inv .3) _ _ (ap saidListed (sym (c .before .length .given .1)) ∙ c .before .before .before .before .before .before .before .list-next .ensures .0)
 
-slice-reshare-prefix-say : tie.Need-slice-reshare-prefix-say Inv-loop μ-loop
-slice-reshare-prefix-say c = rw (c .before .before .before .before .before .before .before .list-next .ensures .1 .1) (line-of c .within)
+-- the line's room holds the line, and more bytes than there are entries
+slice-reshare-prefix-say-entry : tie.Need-slice-reshare-prefix-say-entry Inv-loop μ-loop
+slice-reshare-prefix-say-entry c =
+    let start = c .before .before .before .before .before .before .before .before .before .before .before .before .before .before .before .before .before .before .before .before .before in
+    let i = imageAt start in
+    omega (arith, line-of c .within, ap length (c .before .before .before .before .before .before .before .list-next .ensures .1 .1), c .before .before .before .before .before .before .before .list-next .kept .1 .1 .1 .1 .1 .0, c .before .before .before .before .before .before .before .before .before .before .loop .inv .1, start .pre .1 .1 .1, line-of c .inside, keys-few (imageMap i) (start .pre .0 .catalogue), length-prefixes i (start .pre .0), start .pre .1 .0)
 
-slice-aggregate-say : tie.Need-slice-aggregate-say Inv-loop μ-loop
-slice-aggregate-say c = sym (length-take-le _ _ (rw (c .before .before .before .before .before .before .before .before .list-next .ensures .1 .1) (line-of (c .before) .within)))
+slice-aggregate-say-entry : tie.Need-slice-aggregate-say-entry Inv-loop μ-loop
+slice-aggregate-say-entry c = sym (length-take-le _ _ (slice-reshare-prefix-say-entry (c .before)))
 
-say-requires : tie.Need-say-requires Inv-loop μ-loop
-say-requires c κs = search needs
+say-entry-requires : tie.Need-say-entry-requires Inv-loop μ-loop
+say-entry-requires c κs = subst (λ (xs : List ℕ). LineOf (imageMap (imageAt (c .before .before .before .before .before .before .before .before .before .before .before .before .before .before .before .before .before .before .before .before .before .before))) (c .before .before .before .before .before .before .before .before .before .before .before .loop .count) (take (c .before .before .length .given .0 .0) xs)) (sym (c .before .before .before .before .before .before .before .before .list-next .ensures .1 .1)) (line-of (c .before) .line-of)
 
 same-length : tie.Need-same-length Inv-loop μ-loop
 same-length c = search needs
@@ -78,19 +93,19 @@ same-length-2 : tie.Need-same-length-2 Inv-loop μ-loop
 same-length-2 c = search needs
 
 returns-2 : tie.Need-returns-2 Inv-loop μ-loop
-returns-2 c = search needs
+returns-2 c = line-of (c .before .before .before) .inside
 
 add-count : tie.Need-add-count Inv-loop μ-loop
 add-count c =
     let i = imageAt (c .before .before .before .before .before .before .before .before .before .before .before .before .before .before .before .before .before .before .before .before .before .before .before .before) in
-    let whole = c .before .before .before .before .before .before .before .before .before .before .before .before .before .before .before .before .before .before .before .before .before .before .before .before .pre in
-    omega (arith, c .before .before .before .before .before .before .before .before .before .before .before .before .before .loop .inv .2, line-of (c .before .before .before) .one-less, keys-few (imageMap i) (whole .catalogue), length-prefixes i whole, whole .few)
+    let whole = c .before .before .before .before .before .before .before .before .before .before .before .before .before .before .before .before .before .before .before .before .before .before .before .before .pre .0 in
+    omega (arith, line-of (c .before .before .before) .inside, keys-few (imageMap i) (whole .catalogue), length-prefixes i whole, whole .few)
 
 loop-less : tie.Need-loop-less Inv-loop μ-loop
-loop-less c = omega (arith, line-of (c .before .before .before) .one-less)
+loop-less c = omega (arith, line-of (c .before .before .before) .inside)
 
 loop-again : tie.Need-loop-again Inv-loop μ-loop
-loop-again c = (search needs, search needs, omega (arith, c .before .before .before .before .before .before .before .before .before .before .before .before .before .loop .inv .2, line-of (c .before .before .before) .one-less))
+loop-again c = let t = line-of (c .before .before .before) in (search needs, search needs, omega (arith, t .inside), t .stands)
 
 enum-told-2 : tie.Need-enum-told-2 Inv-loop μ-loop
 enum-told-2 c = search needs
@@ -103,8 +118,11 @@ same-length-4 c = search needs
 
 returns-3 : tie.Need-returns-3 Inv-loop μ-loop
 returns-3 c =
-    let nothing-left = ap length (end-next (imageAt (c .before .before .before .before .before .before .before .before .before .before .before .before .before .before .before .before .before .before .before .before)) (c .before .before .before .before .before .before .before .before .before .before .before .before .before .before .before .before .before .before .before .before .pre) _ _ _ (ap saidListed (sym (c .enum-told2 .given .1)) ∙ c .before .before .before .before .before .before .list-next .ensures .0)) in
-    omega (arith, nothing-left, c .before .before .before .before .before .before .before .before .before .loop .inv .2)
+    let i = c .before .before .before .before .before .before .before .before .before .loop in
+    omega (arith, i .inv .2, end-told (imageAt (c .before .before .before .before .before .before .before .before .before .before .before .before .before .before .before .before .before .before .before .before)) (c .before .before .before .before .before .before .before .before .before .before .before .before .before .before .before .before .before .before .before .before .pre .0) (i .cursor) (i .key) (i .line) (fits (c .before .before .before .before .before .before .before .before .before .before .before .before .before .before .before .before .before .before .before .before) (i .key) (i .line) (i .inv .0) (i .inv .1)) (i .count) (i .inv .3) (ap saidListed (sym (c .enum-told2 .given .1)) ∙ c .before .before .before .before .before .before .list-next .ensures .0))
+
+enum-told-3 : tie.Need-enum-told-3 Inv-loop μ-loop
+enum-told-3 c = search needs
 
 same-length-5 : tie.Need-same-length-5 Inv-loop μ-loop
 same-length-5 c = search needs
@@ -113,7 +131,37 @@ same-length-6 : tie.Need-same-length-6 Inv-loop μ-loop
 same-length-6 c = search needs
 
 returns-4 : tie.Need-returns-4 Inv-loop μ-loop
-returns-4 c = search needs
+returns-4 c =
+    let i = c .before .before .before .before .before .before .before .before .before .loop in
+    omega (arith, refusal-told (imageAt (c .before .before .before .before .before .before .before .before .before .before .before .before .before .before .before .before .before .before .before .before)) (c .before .before .before .before .before .before .before .before .before .before .before .before .before .before .before .before .before .before .before .before .pre .0) (i .cursor) (i .key) (i .line) (fits (c .before .before .before .before .before .before .before .before .before .before .before .before .before .before .before .before .before .before .before .before) (i .key) (i .line) (i .inv .0) (i .inv .1)) (i .count) (i .inv .3) _ (ap saidListed (sym (c .enum-told3 .given .1)) ∙ c .before .before .before .before .before .before .list-next .ensures .0))
+
+enum-told-4 : tie.Need-enum-told-4 Inv-loop μ-loop
+enum-told-4 c = search needs
+
+same-length-7 : tie.Need-same-length-7 Inv-loop μ-loop
+same-length-7 c = search needs
+
+same-length-8 : tie.Need-same-length-8 Inv-loop μ-loop
+same-length-8 c = search needs
+
+returns-5 : tie.Need-returns-5 Inv-loop μ-loop
+returns-5 c =
+    let i = c .before .before .before .before .before .before .before .before .before .loop in
+    omega (arith, refusal-told (imageAt (c .before .before .before .before .before .before .before .before .before .before .before .before .before .before .before .before .before .before .before .before)) (c .before .before .before .before .before .before .before .before .before .before .before .before .before .before .before .before .before .before .before .before .pre .0) (i .cursor) (i .key) (i .line) (fits (c .before .before .before .before .before .before .before .before .before .before .before .before .before .before .before .before .before .before .before .before) (i .key) (i .line) (i .inv .0) (i .inv .1)) (i .count) (i .inv .3) _ (ap saidListed (sym (c .enum-told4 .given .1)) ∙ c .before .before .before .before .before .before .list-next .ensures .0))
+
+enum-told-5 : tie.Need-enum-told-5 Inv-loop μ-loop
+enum-told-5 c = search needs
+
+same-length-9 : tie.Need-same-length-9 Inv-loop μ-loop
+same-length-9 c = search needs
+
+same-length-10 : tie.Need-same-length-10 Inv-loop μ-loop
+same-length-10 c = search needs
+
+returns-6 : tie.Need-returns-6 Inv-loop μ-loop
+returns-6 c =
+    let i = c .before .before .before .before .before .before .before .before .before .loop in
+    omega (arith, refusal-told (imageAt (c .before .before .before .before .before .before .before .before .before .before .before .before .before .before .before .before .before .before .before .before)) (c .before .before .before .before .before .before .before .before .before .before .before .before .before .before .before .before .before .before .before .before .pre .0) (i .cursor) (i .key) (i .line) (fits (c .before .before .before .before .before .before .before .before .before .before .before .before .before .before .before .before .before .before .before .before) (i .key) (i .line) (i .inv .0) (i .inv .1)) (i .count) (i .inv .3) _ (ap saidListed (sym (c .enum-told5 .given .1)) ∙ c .before .before .before .before .before .before .list-next .ensures .0))
 
 pub write-listing-spec : {M : Type 1} → statement M
 write-listing-spec =
@@ -129,9 +177,9 @@ write-listing-spec =
     loop-holds
     list-next-requires
     enum-known-length
-    slice-reshare-prefix-say
-    slice-aggregate-say
-    say-requires
+    slice-reshare-prefix-say-entry
+    slice-aggregate-say-entry
+    say-entry-requires
     same-length
     same-length-2
     returns-2
@@ -142,6 +190,15 @@ write-listing-spec =
     same-length-3
     same-length-4
     returns-3
+    enum-told-3
     same-length-5
     same-length-6
-    returns-4)
+    returns-4
+    enum-told-4
+    same-length-7
+    same-length-8
+    returns-5
+    enum-told-5
+    same-length-9
+    same-length-10
+    returns-6)

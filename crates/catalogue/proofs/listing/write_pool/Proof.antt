@@ -2,6 +2,7 @@
 use mathlib.Core.Path.{sym, ap, subst, _∙_}
 use mathlib.Core.List.{List}
 use Prim.Native.Nat.{ℕ, _+_, _*_, _/_, _≤_}
+use native.Mathlib.Omega.{arith}
 use lib.ListN.{length, take}
 use lib.Seq.{length-take-le}
 use Rattle.records.proofs.Laws.Meaning.{map-catalogue}
@@ -66,7 +67,11 @@ write-listing-requires c κs =
     let l = c .before .before .before .before .before .before .before .before .before .before .before .before .before .before .before .before .build .ensures .1 .0 in
     let v = c .before .before .before .before .before .before .before .before .before .before .before .before .before .before .before .before .build .ensures .1 .1 .0 in
     let w = c .before .before .before .before .before .before .before .before .before .before .before .before .before .before .before .before .build .ensures .1 .1 .1 .0 in
-    subst MapImage (sym ((λ i. lent (take n (l i)) (take n (v i)) (take ((2 * n + 66) / 64) (w i))) ∙ b .shows)) (b .is-map)
+    let few = labels-in (c .before .before .before .before .before) in
+    let start = c .before .before .before .before .before .before .before .before .before .before .before .before .before .before .before .before .before .before .before .before .before .before .before .before .before .before .before .before in (
+      subst MapImage (sym ((λ i. lent (take n (l i)) (take n (v i)) (take ((2 * n + 66) / 64) (w i))) ∙ b .shows)) (b .is-map),
+      (omega (arith, few, length-take-le n (c .before .before .before .before .before .before .before .before .before .before .before .before .before .before .before .before .build .last .1 .0) few, c .before .before .before .before .before .before .before .before .before .before .before .before .before .before .before .before .build .kept .1 .0, start .pre .0), (start .pre .1 .1 .1 .1 .0, start .pre .1 .1 .1 .1 .1)),
+    )
 
 same-length : tie.Need-same-length
 same-length c = search needs

@@ -6,6 +6,7 @@
 --     fillFrom, leftFrom    lines in turn, the first of them with a given number
 --     fillSays, fillPool    the lines of a text, numbered from 1
 --     fileSays, filePool    a text of any length, pushed after a reset
+--     SoundIf               a text that is pushed whole leaves a sound pool
 --     entriesIn             the entries of lines, and `AllEntries`: each has one, and of a nonempty key
 -- Assumes nothing.
 use Prim.Native.Nat.{ℕ, suc}
@@ -18,6 +19,7 @@ use lib.Dec.{ltb}
 use Rattle.keymap.specs.Map.{Entry}
 use Rattle.keymap.specs.Refusals.{Refusal, refusalNumber}
 use Rattle.records.specs.Words.{Pool}
+use Rattle.records.specs.Sound.{Sound}
 use Rattle.pool.specs.Answers.{accepted}
 use Rattle.pool.specs.Reset.{resetPool}
 use Rattle.pool.specs.Push.{pushSays, pushPool}
@@ -63,6 +65,11 @@ fileSays p text = cond (ltb fileLimit (length text)) [] (fillSays (resetPool p) 
 
 unfoldable pub filePool : Pool → List ℕ → Pool
 filePool p text = cond (ltb fileLimit (length text)) p (fillPool (resetPool p) (entryLines text))
+
+abbrev pub SoundIf : Filled → Pool → Type 0
+SoundIf Filled.Done p = Sound p
+SoundIf (Filled.Refused number line) p = Unit {0}
+SoundIf Filled.TooLong p = Unit {0}
 
 -- a line that breaks the rule has none
 abbrev pub withEntry : Option Entry → List Entry → List Entry

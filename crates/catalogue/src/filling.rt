@@ -6,7 +6,7 @@ ghost use lib.ListN.{length, drop};
 ghost use Rattle.pool.specs.Answers.{saidPushed};
 ghost use Rattle.lines.specs.TabLine.{tabEntry};
 ghost use Rattle.lines.specs.Text.{linesOf, entryLines};
-ghost use Rattle.catalogue.specs.Filling.{saidFilled, lineSays, linePool, fillFrom, leftFrom, fillSays, fillPool, fileSays, filePool};
+ghost use Rattle.catalogue.specs.Filling.{saidFilled, lineSays, linePool, fillFrom, leftFrom, fillSays, fillPool, fileSays, filePool, SoundIf};
 ghost use Rattle.catalogue.specs.Program.{poolLength};
 use lines::answers::Cut;
 use lines::answers::Parsed;
@@ -29,6 +29,7 @@ pub fn fill(text: &[u8], pool: &mut [u32]) -> Filled
     requires { ⌜ length (now pool) ≡ poolLength ⌝ }
     ensures answer { λ r. ⌜ saidFilled r ≡ fileSays (now (pool .entry)) (now (text .entry)) ⌝ }
     ensures left { λ _. ⌜ now (pool .exit) ≡ filePool (now (pool .entry)) (now (text .entry)) ⌝ }
+    ensures sound { λ r. ⌜ SoundIf r (now (pool .exit)) ⌝ }
 {
     if FILE_LIMIT < text.len() {
         return Filled::TooLong;

@@ -1,11 +1,13 @@
 // The listing of a pool's map, line by line.
 ghost use mathlib.Core.Path.{_≡_};
 ghost use Rattle.keymap.specs.Decode.{imageMap};
+ghost use Rattle.records.specs.Sound.{Sound};
+ghost use Rattle.records.specs.Meaning.{poolMap};
 ghost use Rattle.image.specs.Meaning.{lent, MapImage};
 ghost use Rattle.trie.specs.GivenKey.{keyOut};
 ghost use Prim.Native.Nat.{_≤_};
 ghost use lib.ListN.{length};
-ghost use Rattle.catalogue.specs.Program.{programCapacity, wordsLength, lineLength};
+ghost use Rattle.catalogue.specs.Program.{programCapacity, poolLength, wordsLength, lineLength};
 ghost use Rattle.catalogue.specs.Listing.{saidListed, listSays, listKey, listLine, givenSays, givenLine, LineOf, WholeIf};
 use crate::printing::say;
 use image::answers::Built;
@@ -134,7 +136,7 @@ fn write_listing(
     }
 }
 
-// Builds the image of a pool's map and writes its listing.
+// Builds the image of a pool's map and writes its listing. The pool is sound and the buffers have its capacity, so that the build refuses nothing.
 pub fn write_pool(
     pool: &[u32],
     labels: &mut [u16],
@@ -143,13 +145,16 @@ pub fn write_pool(
     scratch: &mut [u32],
     key: &mut [u8],
     line: &mut [u8],
-)
+) -> Wrote
+    requires { ⌜ Sound (now pool) ⌝ }
+    requires { ⌜ length (now pool) ≡ poolLength ⌝ }
     requires { ⌜ length (now labels) ≡ programCapacity ⌝ }
     requires { ⌜ length (now values) ≡ programCapacity ⌝ }
     requires { ⌜ length (now words) ≡ wordsLength ⌝ }
     requires { ⌜ length (now scratch) ≡ programCapacity ⌝ }
     requires { ⌜ length (now key) ≡ programCapacity ⌝ }
     requires { ⌜ length (now line) ≡ lineLength ⌝ }
+    ensures { λ r. ⌜ WholeIf (poolMap (now (pool .entry))) r ⌝ }
 {
     match image::build(pool, labels, values, words, scratch) {
         Built::Nodes(n) => {
@@ -161,8 +166,10 @@ pub fn write_pool(
                 &words[..(2 * nodes + 66) / 64],
                 key,
                 line,
-            );
+            )
         }
-        _ => {}
+        Built::PoolTooSmall => Wrote::Refused,
+        Built::NotAPool => Wrote::Refused,
+        Built::OutTooSmall => Wrote::Refused,
     }
 }

@@ -3,6 +3,7 @@
 --     word-bounded      a pool of 32-bit words is bounded
 --     map-image         the image of a catalogue that has few prefixes is a map's image
 --     built-image       what an accepted build of a catalogue leaves
+--     build-accepts     a sound pool of the program's length is built in buffers of its lengths
 -- Assumes nothing.
 use mathlib.Core.Path.{_≡_, refl, sym, ap, subst, _∙_}
 use Prim.Native.Nat.{ℕ, _+_, _*_, _/_, _≤_, _<_}
@@ -11,6 +12,7 @@ use mathlib.Core.Bool.{Bool, true, false, cond}
 use mathlib.Core.List.{List, [], _∷_}
 use lib.ListN.{length, getD, take}
 use lib.Dec.{ltb}
+use borrow.Author.Tests.{le-leb}
 use Rattle.keymap.specs.Limits.{valueLimit, mostRecords}
 use Rattle.keymap.specs.Bits.{wordsFor, pack}
 use Rattle.keymap.specs.Map.{Map, Catalogue}
@@ -32,8 +34,9 @@ use Rattle.keymap.specs.Buffers.{over}
 use Rattle.image.specs.Build.{buffersFit, fitSays, buildSays, buildLabels, buildValues, buildWords}
 use Rattle.image.specs.Meaning.{lent, MapImage}
 use Rattle.keymap.proofs.Laws.Buffers.{length-over, take-over}
-use Rattle.image.proofs.Laws.Build.{fit-all}
+use Rattle.image.proofs.Laws.Build.{fit-all, says-sound}
 use Rattle.image.proofs.Laws.PoolImage.{build-means-image}
+use Rattle.catalogue.specs.Program.{programCapacity, poolLength, wordsLength}
 
 pub word-bounded : (p : Pool) → ((j : ℕ) → getD p j 0 < valueLimit) → Bounded p
 unfolding word
@@ -78,6 +81,7 @@ pub record BuiltImage (p : Pool) (ls vs ws qs : List ℕ) (n : ℕ) : Type 0 whe
   pub shows : lent (take n (buildLabels p ls vs ws qs)) (take n (buildValues p ls vs ws qs)) (take ((2 * n + 66) / 64) (buildWords p ls vs ws qs)) ≡ image (poolMap p)
   pub few : n ≤ mostRecords
   pub is-map : MapImage (image (poolMap p))
+  pub map-back : imageMap (image (poolMap p)) ≡ poolMap p
 
 pub built-image : (p : Pool) (ls vs ws qs : List ℕ) (n : ℕ) → (Sound p → Catalogue (poolMap p)) → 0 ∷ n ∷ [] ≡ buildSays p ls vs ws qs → BuiltImage p ls vs ws qs n
 unfolding image
@@ -104,4 +108,15 @@ built-image p ls vs ws qs n held h =
       shows = λ i. record { labels = l i; values = v i; words = w i };
       few = omega (arith, f .count, used-within p (f .sound));
       is-map = map-image m c (omega (arith, many, f .count, used-within p (f .sound)));
+      map-back = imageMap-image m c;
     }
+
+-- a sound pool of the program's length is built in buffers of its lengths
+pub build-accepts : (p : Pool) → Sound p → length p ≡ poolLength → (ls vs ws qs : List ℕ) → length ls ≡ programCapacity → length vs ≡ programCapacity
+    → length ws ≡ wordsLength → length qs ≡ programCapacity → buildSays p ls vs ws qs ≡ 0 ∷ usedCount p ∷ []
+unfolding fitSays buffersFit
+build-accepts p s size ls vs ws qs l v w q =
+    let n : ℕ = usedCount p in
+    let few : n ≤ programCapacity = omega (arith, used-within p s, size) in
+    says-sound p ls vs ws qs s
+    ∙ rw (le-leb n (length ls) (omega (arith, few, l)), le-leb n (length vs) (omega (arith, few, v)), le-leb ((2 * n + 3 + 63) / 64) (length ws) (omega (arith, few, w)), le-leb n (length qs) (omega (arith, few, q)))

@@ -5,8 +5,9 @@
 --     fill-whole                       the lines of a whole text, and `file-long`, `file-short`: a text by its length
 --     fill-means                       lines accepted whole leave a sound pool of the same length that holds the inserts of their entries
 --     reset-fills                      a text accepted whole after a reset leaves the map of its entries, and its image is the image of that map
+--     filled-sound                     and the pool is sound, by the answer
 --     fill-accepts                     lines that are all entries of nonempty keys, for which there is room, are accepted whole
---     lines-bytes, key-bytes           the lines of bytes are of bytes, and so are their keys
+--     lines-bytes, key-bytes           the lines of bytes are of bytes, and so are their keys; `bytes-of`: each element below the limit
 -- Assumes nothing.
 use mathlib.Core.Path.{_≡_, refl, sym, ap, _∙_}
 use Prim.Native.Nat.{ℕ, suc, _≤_, _<_}
@@ -14,7 +15,7 @@ use native.Mathlib.Omega.{arith}
 use mathlib.Core.Bool.{Bool, true, false}
 use mathlib.Core.List.{List, [], _∷_, _++_}
 use mathlib.Core.Option.{Option, none, some}
-use lib.ListN.{length, take, drop}
+use lib.ListN.{length, getD, take, drop}
 use lib.Dec.{eqb}
 use borrow.Author.Tests.{lt-ltb, le-ltb, eq-eqb, ne-eqb, eqb-false}
 use Rattle.keymap.specs.Limits.{byteLimit}
@@ -44,7 +45,8 @@ use Rattle.lines.specs.Bytes.{tab, lineFeed, stretch}
 use Rattle.lines.specs.TabLine.{keyPart, tabEntry, entrySays, entryKey, tabLineSays, tabLineKey}
 use Rattle.lines.specs.Text.{inFirst, linesOf, entryLines}
 use Rattle.lines.proofs.Laws.TabLine.{tabEntry-some}
-use Rattle.catalogue.specs.Filling.{fileLimit, lineSays, linePool, fillFrom, leftFrom, fillSays, fillPool, fileSays, filePool, entriesIn, AllEntries}
+use Rattle.catalogue.specs.declared.filling.Filled as answers
+use Rattle.catalogue.specs.Filling.{fileLimit, saidFilled, SoundIf, lineSays, linePool, fillFrom, leftFrom, fillSays, fillPool, fileSays, filePool, entriesIn, AllEntries}
 
 -- ---- one line
 
@@ -103,6 +105,10 @@ unfolding fileSays filePool
 file-short p text h = (rw (le-ltb _ _ h), rw (le-ltb _ _ h))
 
 -- ---- bytes
+
+pub bytes-of : (t : List ℕ) → ((j : ℕ) → getD t j 0 < byteLimit) → Bytes t
+bytes-of [] h = tt
+bytes-of (b ∷ t) h = (h 0, bytes-of t (λ j. h (suc j)))
 
 abbrev pub AllBytes : List (List ℕ) → Type 0
 AllBytes [] = Unit {0}
@@ -178,6 +184,12 @@ reset-fills p h text b said =
     let f = fill-means (entryLines text) 0 (resetPool p) (reset-sound p h) (lines-bytes text b) said in
     let m = f .holds ∙ ap (insertAll (entriesIn (entryLines text))) (reset-means-empty p h) in
     record { sound = f .sound; holds = m; shows = image-pool (leftFrom (resetPool p) (entryLines text)) (f .sound) ∙ ap image m }
+
+pub filled-sound : (p : Pool) → recordWords ≤ length p → (text : List ℕ) → Bytes text → (r : answers.Filled) → saidFilled r ≡ fillSays (resetPool p) (entryLines text)
+    → SoundIf r (fillPool (resetPool p) (entryLines text))
+filled-sound p h text b answers.Filled.Done said = reset-fills p h text b (sym said) .sound
+filled-sound p h text b (answers.Filled.Refused number line) said = tt
+filled-sound p h text b answers.Filled.TooLong said = tt
 
 -- ---- and when they are accepted whole
 

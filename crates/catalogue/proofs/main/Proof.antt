@@ -1,7 +1,9 @@
--- `catalogue::main` is safe and ends: what was read stands within the room. Assumes nothing.
+-- `catalogue::main` is safe and ends: what was read stands within the room, the rooms are the specification's, and a pool that was filled is sound. Assumes nothing.
 use mathlib.Core.Path.{subst}
 use native.Mathlib.Omega.{arith}
 use borrow.Author.Needs.{needs}
+use Rattle.catalogue.specs.declared.filling.Filled.{Filled}
+use Rattle.catalogue.specs.Filling.{SoundIf}
 use Rattle.catalogue.specs.Reading.{Within}
 use Rattle.catalogue.proofs.main.Statement.{statement}
 use Rattle.catalogue.proofs.main.Tie as tie
@@ -82,7 +84,9 @@ slice-aggregate-write-pool-7 : tie.Need-slice-aggregate-write-pool-7
 slice-aggregate-write-pool-7 c = search needs
 
 write-pool-requires : tie.Need-write-pool-requires
-write-pool-requires c κs = search needs
+write-pool-requires c κs =
+    let sound = subst (λ (r : Filled). SoundIf r (c .before .before .before .before .before .before .before .before .before .before .fill .last .1 .0)) (c .before .before .before .before .before .before .before .enum-told3 .given .1) (c .before .before .before .before .before .before .before .before .before .before .fill .ensures .1 .1) in
+    (sound, (omega (arith, c .before .before .before .before .before .before .before .before .before .before .fill .kept .1 .0), (search needs, (search needs, (search needs, (search needs, (search needs, search needs)))))))
 
 returns-2 : tie.Need-returns-2
 returns-2 c = search needs

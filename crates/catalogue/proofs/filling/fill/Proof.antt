@@ -1,16 +1,19 @@
 -- `catalogue::filling::fill` meets its contract: a text that is too long is not looked at, any other is pushed into the pool that was reset. Assumes nothing.
-use mathlib.Core.Path.{ap, _∙_}
+use mathlib.Core.Path.{sym, ap, subst, _∙_}
 use native.Mathlib.Omega.{arith}
 use borrow.Author.Needs.{needs}
 use Rattle.records.specs.Words.{Pool}
 use Rattle.lines.specs.Text.{entryLines}
-use Rattle.catalogue.specs.Filling.{fillSays, fillPool}
-use Rattle.catalogue.proofs.Laws.Filling.{file-long, file-short}
+use Rattle.catalogue.specs.Filling.{fillSays, fillPool, SoundIf}
+use Rattle.catalogue.proofs.Laws.Filling.{bytes-of, file-long, file-short, filled-sound}
 use Rattle.catalogue.proofs.filling.fill.Statement.{statement}
 use Rattle.catalogue.proofs.filling.fill.Tie as tie
 
 returns : tie.Need-returns
-returns c = let a = c .before .before .before .args in file-long (a .pool .now) (a .text .now) (omega arith)
+returns c =
+    let a = c .before .before .before .args in
+    let long = file-long (a .pool .now) (a .text .now) (omega arith) in
+    (long .0, (long .1, tt))
 
 reset-requires : tie.Need-reset-requires
 reset-requires c κs = search needs
@@ -26,9 +29,13 @@ returns-2 c =
     let a = c .before .before .before .before .before .before .before .before .before .before .before .args in
     let text = a .text .now in
     let short = file-short (a .pool .now) text (omega arith) in
-    let fresh = c .before .before .before .before .before .before .reset .ensures .1 in (
-      c .before .before .push-lines .ensures .0 ∙ ap (λ (p : Pool). fillSays p (entryLines text)) fresh ∙ short .0,
-      c .before .before .push-lines .ensures .1 ∙ ap (λ (p : Pool). fillPool p (entryLines text)) fresh ∙ short .1,
+    let fresh = c .before .before .before .before .before .before .reset .ensures .1 in
+    let said = c .before .before .push-lines .ensures .0 ∙ ap (λ (p : Pool). fillSays p (entryLines text)) fresh in
+    let left = c .before .before .push-lines .ensures .1 ∙ ap (λ (p : Pool). fillPool p (entryLines text)) fresh in
+    let bytes = bytes-of text (λ j. c .before .before .before .before .before .before .before .before .before .before .shared-slice-known .given j .fits) in
+    let sound = filled-sound (a .pool .now) (omega (arith, c .before .before .before .before .before .before .before .before .before .before .before .pre)) text bytes (c .before .before .push-lines .result) said in (
+      said ∙ short .0,
+      (left ∙ short .1, subst (SoundIf (c .before .before .push-lines .result)) (sym left) sound),
     )
 
 pub fill-spec : {M : Type 1} → statement M

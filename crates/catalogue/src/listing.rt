@@ -58,7 +58,7 @@ pub fn list_next(
             node: _,
             value,
             next,
-        } => write_next(labels, values, words, next, value, key, line),
+        } => write_given(labels, values, words, next, value, key, line),
         Stepped::End { next: _ } => Listed::End,
         Stepped::NotAnImage => Listed::NotAnImage,
         Stepped::BadPlace => Listed::BadPlace,
@@ -66,7 +66,7 @@ pub fn list_next(
 }
 
 // The line of the entry that a cursor gave last.
-fn write_next(
+fn write_given(
     labels: &[u16],
     values: &[u32],
     words: &[u64],

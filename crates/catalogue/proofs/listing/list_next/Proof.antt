@@ -29,8 +29,8 @@ step-requires c κs = search needs
 enum-known-value : tie.Need-enum-known-value
 enum-known-value c = search needs
 
-write-next-requires : tie.Need-write-next-requires
-write-next-requires c κs = search needs
+write-given-requires : tie.Need-write-given-requires
+write-given-requires c κs = search needs
 
 enum-told : tie.Need-enum-told
 enum-told c = search needs
@@ -51,7 +51,7 @@ returns : tie.Need-returns
 returns c =
     let a = c .before .before .before .before .before .before .before .before .before .before .before .before .before .before .before .before .args in
     let is = given-next (imageAt (c .before .before .before .before .before .before .before .before .before .before .before .before .before .before .before .before)) (a .cursor) _ _ _ (a .key .now) (a .line .now) (whole (c .before .before .before .before .before .before .before .before .before .before .before .before .before)) (ap saidStepped (sym (c .before .before .before .before .before .before .before .before .value .given .1)) ∙ c .before .before .before .before .before .before .before .before .before .before .step .ensures) in
-    (c .before .before .before .before .write-next .ensures .0 ∙ is .says-is, (c .before .before .before .before .write-next .ensures .1 .0 ∙ is .key-is, c .before .before .before .before .write-next .ensures .1 .1 ∙ is .line-is))
+    (c .before .before .before .before .write-given .ensures .0 ∙ is .says-is, (c .before .before .before .before .write-given .ensures .1 .0 ∙ is .key-is, c .before .before .before .before .write-given .ensures .1 .1 ∙ is .line-is))
 
 returns-2 : tie.Need-returns-2
 returns-2 c =
@@ -77,7 +77,7 @@ list-next-spec =
     (tie.spec
     step-requires
     enum-known-value
-    write-next-requires
+    write-given-requires
     enum-told
     enum-told-2
     enum-told-3

@@ -1,4 +1,4 @@
--- `catalogue::listing::write_next` meets its contract: the cursor's key stands at the front of its room, and the line is written of it. Assumes nothing.
+-- `catalogue::listing::write_given` meets its contract: the cursor's key stands at the front of its room, and the line is written of it. Assumes nothing.
 use mathlib.Core.Path.{_≡_, sym, ap, _∙_}
 use Prim.Native.Nat.{ℕ}
 use native.Mathlib.Omega.{arith}
@@ -13,8 +13,8 @@ use Rattle.trie.specs.declared.Spelled.{Spelled}
 use Rattle.trie.specs.declared.Spelled.the-variants as spelled
 use Rattle.trie.specs.Answers.{saidSpelled}
 use Rattle.catalogue.proofs.Laws.GivenLine.{Front, key-front, line-written, line-short, key-refusal}
-use Rattle.catalogue.proofs.listing.write_next.Statement.{statement}
-use Rattle.catalogue.proofs.listing.write_next.Tie as tie
+use Rattle.catalogue.proofs.listing.write_given.Statement.{statement}
+use Rattle.catalogue.proofs.listing.write_given.Tie as tie
 
 abbrev imageAt : tie.Start → Image
 imageAt start = lent (start .args .labels .now) (start .args .values .now) (start .args .words .now)
@@ -108,8 +108,8 @@ returns-5 c =
     let is = key-refusal (imageAt (c .before .before .before .before .before .before .before .before .before .before .before)) (a .cursor) (a .value) (a .key .now) (a .line .now) spelled.KeyRoom (ap saidSpelled (sym (c .enum-told4 .given .1)) ∙ c .before .before .before .before .cursor-key .ensures .0) (λ n e. let z : _≡_ {A = ℕ} 0 1 = cc in omega arith) in
     (sym (is .says-is), (c .before .before .before .before .cursor-key .ensures .1, sym (is .line-is)))
 
-pub write-next-spec : {M : Type 1} → statement M
-write-next-spec =
+pub write-given-spec : {M : Type 1} → statement M
+write-given-spec =
     tie.close
     (tie.spec
     cursor-key-requires

@@ -8,10 +8,11 @@
 --     givenSays, givenLine  the same of an entry that a cursor gave last
 --     restOf                the entries that a listing has still to give
 --     LineOf                a text is that of entry j of a map, from 0
+--     SaidAt                what `say_entry` tells behind n lines
 --     WholeIf               what `write_listing` tells
 --     Lists                 a start and calls of `list_next`, each on the cursor and the rooms that the one before it left; `written` is what they write
 -- Assumes nothing.
-use Prim.Native.Nat.{ℕ, zero, suc, _<_}
+use Prim.Native.Nat.{ℕ, zero, suc, _+_, _<_}
 use mathlib.Core.Path.{_≡_}
 use mathlib.Core.Bool.{cond}
 use mathlib.Core.List.{List, [], _∷_, _++_, head?}
@@ -37,6 +38,7 @@ use Rattle.trie.specs.Cursors.{setOf, belongs, onCursor, startSays, nextIn}
 use Rattle.trie.specs.GivenKey.{givenKey, keyOf}
 use Rattle.catalogue.specs.declared.listing.Listed.{Listed}
 use Rattle.catalogue.specs.declared.listing.Wrote.{Wrote}
+use Rattle.catalogue.specs.declared.printing.Said.{Said}
 
 abbrev pub saidListed : Listed → List ℕ
 saidListed (Listed.Line n next) = 0 ∷ n ∷ saidCursor next
@@ -122,10 +124,15 @@ restOf m (Finished kind) = []
 abbrev pub LineOf : Map → ℕ → List ℕ → Type 0
 LineOf m j text = (e : Entry) × (head? (drop j m) ≡ some e) × (text ≡ tabText e)
 
+-- a line more, or a failure behind the same lines
+abbrev pub SaidAt : ℕ → Said → Type 0
+SaidAt n (Said.All progress) = progress .lines ≡ n + 1
+SaidAt n (Said.Failed failure) = failure .lines ≡ n
+
 -- a listing that came to its end has a line for each entry, and one whose write failed has fewer; no call refuses
 abbrev pub WholeIf : Map → Wrote → Type 0
-WholeIf m (Wrote.Lines n) = n ≡ length m
-WholeIf m (Wrote.Stopped n) = n < length m
+WholeIf m (Wrote.Whole progress) = progress .lines ≡ length m
+WholeIf m (Wrote.Stopped failure) = failure .lines < length m
 WholeIf m Wrote.Refused = ⊥
 
 -- the cursor to go on with: nothing follows the end or a refusal

@@ -8,8 +8,12 @@ ghost use Rattle.trie.specs.GivenKey.{keyOut};
 ghost use Prim.Native.Nat.{_≤_};
 ghost use lib.ListN.{length};
 ghost use Rattle.catalogue.specs.Program.{programCapacity, poolLength, wordsLength, lineLength};
-ghost use Rattle.catalogue.specs.Listing.{saidListed, listSays, listKey, listLine, givenSays, givenLine, LineOf, WholeIf};
-use crate::printing::say;
+ghost use Rattle.catalogue.specs.Listing.{saidListed, listSays, listKey, listLine, givenSays, givenLine, WholeIf};
+use crate::printing::Failure;
+use crate::printing::Progress;
+use crate::printing::Said;
+use crate::printing::no_lines;
+use crate::printing::say_entry;
 use image::answers::Built;
 use lines::answers::Written;
 use trie::Cursor;
@@ -32,10 +36,10 @@ pub enum Listed {
 
 // Of a whole listing.
 pub enum Wrote {
-    // It came to its end, after so many lines.
-    Lines(usize),
-    // A write failed, after so many lines.
-    Stopped(usize),
+    // It came to its end.
+    Whole(Progress),
+    // A write failed.
+    Stopped(Failure),
     // A call refused. The contracts show that this is never answered.
     Refused,
 }
@@ -80,9 +84,9 @@ fn write_given(
     ensures line { λ _. ⌜ now (line .exit) ≡ givenLine (lent (now (labels .entry)) (now (values .entry)) (now (words .entry))) cursor value (now (key .entry)) (now (line .entry)) ⌝ }
 {
     match trie::cursor_key(labels, values, words, cursor, key) {
-        Spelled::Wrote(length) => match lines::write_line(&key[..length], value, line) {
-            Written::Length(length) => Listed::Line {
-                length,
+        Spelled::Wrote(spelled) => match lines::write_line(&key[..spelled], value, line) {
+            Written::Length(written) => Listed::Line {
+                length: written,
                 next: cursor,
             },
             Written::KeyRoom => Listed::KeyRoom,
@@ -91,13 +95,6 @@ fn write_given(
         Spelled::BadPlace => Listed::BadPlace,
         Spelled::KeyRoom => Listed::KeyRoom,
     }
-}
-
-// Writes the line of entry `at` of an image's map, counted from 0: whether all of it was written. The image and the number are there for the contract, so that nothing but that line is handed over.
-fn say_entry(labels: &[u16], values: &[u32], words: &[u64], at: usize, text: &[u8]) -> bool
-    requires { ⌜ LineOf (imageMap (lent (now labels) (now values) (now words))) at (now text) ⌝ }
-{
-    say(text)
 }
 
 // Writes the listing of an image, line by line, up to a write that fails.
@@ -118,17 +115,19 @@ fn write_listing(
         return Wrote::Refused;
     };
     let mut cursor = start;
-    let mut count = 0;
+    let mut progress = no_lines();
     loop {
         match list_next(labels, values, words, cursor, key, line) {
             Listed::Line { length, next } => {
-                if !say_entry(labels, values, words, count, &line[..length]) {
-                    return Wrote::Stopped(count);
+                match say_entry(labels, values, words, progress, &line[..length]) {
+                    Said::All(further) => {
+                        cursor = next;
+                        progress = further;
+                    }
+                    Said::Failed(failure) => return Wrote::Stopped(failure),
                 }
-                cursor = next;
-                count += 1;
             }
-            Listed::End => return Wrote::Lines(count),
+            Listed::End => return Wrote::Whole(progress),
             Listed::NotAnImage => return Wrote::Refused,
             Listed::BadPlace => return Wrote::Refused,
             Listed::KeyRoom => return Wrote::Refused,

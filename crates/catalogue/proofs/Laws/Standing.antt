@@ -1,7 +1,7 @@
 -- One call of `list_next` in a listing of the empty query, by the entries that are still to be given.
 --
 --     Stands                     a cursor of the listing, and the entries behind it
---     start-rest                 the start stands before all of the map; `start-told`: it is not refused
+--     start-rest                 the start stands before all of the map; `start-told`: no start is refused
 --     stand-ends                 before nothing the call says the end
 --     Gives, stand-gives         before an entry, in rooms that hold it, the call writes its text and stands behind it
 --     Tells, line-told           what the answer of a line tells before entry j: its text is that entry's; `end-told`, `refusal-told`: the end comes behind all, and a refusal never
@@ -113,8 +113,8 @@ start-rest i image c h = go m refl
           rest-is = ap (restOf m) is ∙ ap (λ (q : Key). setOf m kinds.Predictive q) (pathOf-nodeOf m [] root) ∙ all;
         }
 
-pub start-told : (i : Image) → MapImage i → ¬ (saidStarted NotAnImage ≡ startSays kinds.Predictive i [])
-start-told i image h = let q = h ∙ startSays-accepted i kinds.Predictive [] (mapImage-tested i image) in let z : _≡_ {A = ℕ} 6 0 = cc in omega arith
+pub start-told : (i : Image) → MapImage i → (q : Key) → ¬ (saidStarted NotAnImage ≡ startSays kinds.Predictive i q)
+start-told i image q h = let e = h ∙ startSays-accepted i kinds.Predictive q (mapImage-tested i image) in let z : _≡_ {A = ℕ} 6 0 = cc in omega arith
 
 -- ---- a call
 

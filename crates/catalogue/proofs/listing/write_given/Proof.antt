@@ -22,12 +22,12 @@ imageAt start = lent (start .args .labels .now) (start .args .values .now) (star
 cursor-key-requires : tie.Need-cursor-key-requires
 cursor-key-requires c κs = search needs
 
-enum-known-length : tie.Need-enum-known-length
-enum-known-length c = search needs
+enum-known-spelled : tie.Need-enum-known-spelled
+enum-known-spelled c = search needs
 
 -- the key that was written
-key-of : (c : tie.After-known-told) → (k : Key) × Front (imageAt (c .before .before .before .before .before .before .before .before .before .before .before .before)) (c .before .before .before .before .before .before .before .before .before .before .before .before .args .cursor) (c .before .before .before .before .before .before .before .before .before .before .before .before .args .key .now) (c .before .length .given .0 .0) k
-key-of c = key-front _ _ _ _ (ap saidSpelled (sym (c .before .length .given .1)) ∙ c .before .before .before .before .before .cursor-key .ensures .0)
+key-of : (c : tie.After-known-told) → (k : Key) × Front (imageAt (c .before .before .before .before .before .before .before .before .before .before .before .before)) (c .before .before .before .before .before .before .before .before .before .before .before .before .args .cursor) (c .before .before .before .before .before .before .before .before .before .before .before .before .args .key .now) (c .before .spelled .given .0 .0) k
+key-of c = key-front _ _ _ _ (ap saidSpelled (sym (c .before .spelled .given .1)) ∙ c .before .before .before .before .before .cursor-key .ensures .0)
 
 slice-reshare-prefix-write-line : tie.Need-slice-reshare-prefix-write-line
 slice-reshare-prefix-write-line c = rw (c .before .before .before .before .before .cursor-key .ensures .1) (key-of c .1 .within)
@@ -38,8 +38,8 @@ slice-aggregate-write-line c = sym (length-take-le _ _ (rw (c .before .before .b
 write-line-requires : tie.Need-write-line-requires
 write-line-requires c κs = search needs
 
-enum-known-length-2 : tie.Need-enum-known-length-2
-enum-known-length-2 c = search needs
+enum-known-written : tie.Need-enum-known-written
+enum-known-written c = search needs
 
 enum-told : tie.Need-enum-told
 enum-told c = search needs
@@ -63,8 +63,8 @@ returns : tie.Need-returns
 returns c =
     let a = c .before .before .before .before .before .before .before .before .before .before .before .before .before .before .before .before .before .before .before .before .args in
     let (k, front) = key-of (c .before .before .before .before .before .before .before .before) in
-    let part = ap (take (c .before .before .before .before .before .before .before .before .before .length .given .0 .0)) (c .before .before .before .before .before .before .before .before .before .before .before .before .before .cursor-key .ensures .1) ∙ front .front in
-    let says = line-written _ _ (a .value) _ (a .line .now) _ k front _ part _ (ap saidWritten (sym (c .before .length2 .given .1)) ∙ c .before .before .before .before .before .write-line .ensures .0) in
+    let part = ap (take (c .before .before .before .before .before .before .before .before .before .spelled .given .0 .0)) (c .before .before .before .before .before .before .before .before .before .before .before .before .before .cursor-key .ensures .1) ∙ front .front in
+    let says = line-written _ _ (a .value) _ (a .line .now) _ k front _ part _ (ap saidWritten (sym (c .before .written .given .1)) ∙ c .before .before .before .before .before .write-line .ensures .0) in
     (says .0, (c .before .before .before .before .before .before .before .before .before .before .before .before .before .cursor-key .ensures .1, c .before .before .before .before .before .write-line .ensures .1 ∙ says .1))
 
 same-length-3 : tie.Need-same-length-3
@@ -77,7 +77,7 @@ returns-2 : tie.Need-returns-2
 returns-2 c =
     let a = c .before .before .before .before .before .before .before .before .before .before .before .before .before .before .before .before .before .before .before .args in
     let (k, front) = key-of (c .before .before .before .before .before .before .before) in
-    let part = ap (take (c .before .before .before .before .before .before .before .before .length .given .0 .0)) (c .before .before .before .before .before .before .before .before .before .before .before .before .cursor-key .ensures .1) ∙ front .front in
+    let part = ap (take (c .before .before .before .before .before .before .before .before .spelled .given .0 .0)) (c .before .before .before .before .before .before .before .before .before .before .before .before .cursor-key .ensures .1) ∙ front .front in
     let says = line-short _ _ (a .value) _ (a .line .now) _ k front _ part (ap saidWritten (sym (c .enum-told .given .1)) ∙ c .before .before .before .before .write-line .ensures .0) in
     (says .0, (c .before .before .before .before .before .before .before .before .before .before .before .before .cursor-key .ensures .1, c .before .before .before .before .write-line .ensures .1 ∙ says .1))
 
@@ -113,11 +113,11 @@ write-given-spec =
     tie.close
     (tie.spec
     cursor-key-requires
-    enum-known-length
+    enum-known-spelled
     slice-reshare-prefix-write-line
     slice-aggregate-write-line
     write-line-requires
-    enum-known-length-2
+    enum-known-written
     enum-told
     enum-told-2
     enum-told-3

@@ -2,7 +2,7 @@
 -- so that what is written is that entry's text. Assumes nothing.
 use mathlib.Core.Path.{_≡_, sym, ap, subst, _∙_}
 use mathlib.Core.List.{List}
-use Prim.Native.Nat.{ℕ, _-_, _≤_}
+use Prim.Native.Nat.{ℕ, _+_, _-_, _≤_}
 use native.Mathlib.Omega.{arith}
 use lib.ListN.{length, take, drop}
 use lib.Seq.{length-take-le}
@@ -14,7 +14,7 @@ use Rattle.keymap.specs.Decode.{imageMap}
 use Rattle.image.specs.Meaning.{lent}
 use Rattle.trie.specs.Answers.{saidStarted}
 use Rattle.trie.proofs.Laws.Image.{length-prefixes}
-use Rattle.catalogue.specs.Listing.{saidListed, LineOf}
+use Rattle.catalogue.specs.Listing.{saidListed, LineOf, SaidAt}
 use Rattle.catalogue.proofs.Laws.Count.{keys-few}
 use Rattle.catalogue.proofs.Laws.Standing.{Stands, Fit, Tells, start-rest, start-told, line-told, end-told, refusal-told}
 use Rattle.catalogue.proofs.Laws.Rooms.{rooms-fit}
@@ -22,14 +22,14 @@ use Rattle.catalogue.proofs.listing.write_listing.Statement.{statement}
 use Rattle.catalogue.proofs.listing.write_listing.Tie as tie
 
 abbrev Inv-loop : tie.InvT-loop
-Inv-loop labels values words key₀ line₀ cursor₀ count₀ key line cursor count =
+Inv-loop labels values words key₀ line₀ cursor₀ progress₀ key line cursor progress =
     (length key ≡ length key₀) ×
     (length line ≡ length line₀) ×
-    (count ≤ length (imageMap (lent labels values words))) ×
-    Stands (lent labels values words) cursor (drop count (imageMap (lent labels values words)))
+    (progress .lines ≤ length (imageMap (lent labels values words))) ×
+    Stands (lent labels values words) cursor (drop (progress .lines) (imageMap (lent labels values words)))
 
 abbrev μ-loop : tie.MeasureT-loop
-μ-loop labels values words key₀ line₀ cursor₀ count₀ key line cursor count = length (imageMap (lent labels values words)) - count
+μ-loop labels values words key₀ line₀ cursor₀ progress₀ key line cursor progress = length (imageMap (lent labels values words)) - progress .lines
 
 abbrev imageAt : tie.Start Inv-loop μ-loop → Image
 imageAt start = lent (start .args .labels .now) (start .args .values .now) (start .args .words .now)
@@ -54,12 +54,17 @@ enum-told : tie.Need-enum-told Inv-loop μ-loop
 enum-told c = search needs
 
 returns : tie.Need-returns Inv-loop μ-loop
-returns c = start-told (imageAt (c .before .before .before .before .before .before .before .before .before)) (c .before .before .before .before .before .before .before .before .before .pre .0) (ap saidStarted (sym (c .enum-told .given .1)) ∙ c .before .before .predictive-search .ensures)
+returns c = start-told (imageAt (c .before .before .before .before .before .before .before .before .before)) (c .before .before .before .before .before .before .before .before .before .pre .0) _ (ap saidStarted (sym (c .enum-told .given .1)) ∙ c .before .before .predictive-search .ensures)
+
+no-lines-requires : tie.Need-no-lines-requires Inv-loop μ-loop
+no-lines-requires c κs = search needs
 
 loop-holds : tie.Need-loop-holds Inv-loop μ-loop
 loop-holds c =
-    let begins = start-rest (imageAt (c .before .before .before .before .before .before .before .before .before .before)) (c .before .before .before .before .before .before .before .before .before .before .pre .0) (c .before .start .given .0 .0) (ap saidStarted (sym (c .before .start .given .1)) ∙ c .before .before .before .predictive-search .ensures) in
-    (search needs, search needs, omega arith, begins)
+    let i = imageAt (c .before .before .before .before .before .before .before .before .before .before .before) in
+    let begins = start-rest i (c .before .before .before .before .before .before .before .before .before .before .before .pre .0) (c .before .before .start .given .0 .0) (ap saidStarted (sym (c .before .before .start .given .1)) ∙ c .before .before .before .before .predictive-search .ensures) in
+    let first = c .no-lines .ensures in
+    (search needs, search needs, omega (arith, first), subst (λ (n : ℕ). Stands i (c .before .before .start .given .0 .0) (drop n (imageMap i))) (sym first) begins)
 
 list-next-requires : tie.Need-list-next-requires Inv-loop μ-loop
 list-next-requires c κs = search needs
@@ -68,23 +73,42 @@ enum-known-length : tie.Need-enum-known-length Inv-loop μ-loop
 enum-known-length c = search needs
 
 -- the line that was given
-line-of : (c : tie.After-known-told2 Inv-loop μ-loop) → Tells (imageAt (c .before .before .before .before .before .before .before .before .before .before .before .before .before .before .before .before .before .before .before .before .before)) (c .before .before .before .before .before .before .before .before .before .before .loop .cursor) (c .before .before .before .before .before .before .before .before .before .before .loop .key) (c .before .before .before .before .before .before .before .before .before .before .loop .line) (c .before .before .before .before .before .before .before .before .before .before .loop .count) (c .before .length .given .0 .0) (c .before .length .given .0 .1 .0)
+line-of : (c : tie.After-known-told2 Inv-loop μ-loop) → Tells (imageAt (c .before .before .before .before .before .before .before .before .before .before .before .before .before .before .before .before .before .before .before .before .before .before)) (c .before .before .before .before .before .before .before .before .before .before .loop .cursor) (c .before .before .before .before .before .before .before .before .before .before .loop .key) (c .before .before .before .before .before .before .before .before .before .before .loop .line) (c .before .before .before .before .before .before .before .before .before .before .loop .progress .lines) (c .before .length .given .0 .0) (c .before .length .given .0 .1 .0)
 line-of c =
     let i = c .before .before .before .before .before .before .before .before .before .before .loop in
-    line-told (imageAt (c .before .before .before .before .before .before .before .before .before .before .before .before .before .before .before .before .before .before .before .before .before)) (c .before .before .before .before .before .before .before .before .before .before .before .before .before .before .before .before .before .before .before .before .before .pre .0) (i .cursor) (i .key) (i .line) (fits (c .before .before .before .before .before .before .before .before .before .before .before .before .before .before .before .before .before .before .before .before .before) (i .key) (i .line) (i .inv .0) (i .inv .1)) (i .count) (i .inv .3) _ _ (ap saidListed (sym (c .before .length .given .1)) ∙ c .before .before .before .before .before .before .before .list-next .ensures .0)
+    line-told (imageAt (c .before .before .before .before .before .before .before .before .before .before .before .before .before .before .before .before .before .before .before .before .before .before)) (c .before .before .before .before .before .before .before .before .before .before .before .before .before .before .before .before .before .before .before .before .before .before .pre .0) (i .cursor) (i .key) (i .line) (fits (c .before .before .before .before .before .before .before .before .before .before .before .before .before .before .before .before .before .before .before .before .before .before) (i .key) (i .line) (i .inv .0) (i .inv .1)) (i .progress .lines) (i .inv .3) _ _ (ap saidListed (sym (c .before .length .given .1)) ∙ c .before .before .before .before .before .before .before .list-next .ensures .0)
 
--- the line's room holds the line, and more bytes than there are entries
 slice-reshare-prefix-say-entry : tie.Need-slice-reshare-prefix-say-entry Inv-loop μ-loop
-slice-reshare-prefix-say-entry c =
-    let start = c .before .before .before .before .before .before .before .before .before .before .before .before .before .before .before .before .before .before .before .before .before in
-    let i = imageAt start in
-    omega (arith, line-of c .within, ap length (c .before .before .before .before .before .before .before .list-next .ensures .1 .1), c .before .before .before .before .before .before .before .list-next .kept .1 .1 .1 .1 .1 .0, c .before .before .before .before .before .before .before .before .before .before .loop .inv .1, start .pre .1 .1 .1, line-of c .inside, keys-few (imageMap i) (start .pre .0 .catalogue), length-prefixes i (start .pre .0), start .pre .1 .0)
+slice-reshare-prefix-say-entry c = rw (c .before .before .before .before .before .before .before .list-next .ensures .1 .1) (line-of c .within)
 
 slice-aggregate-say-entry : tie.Need-slice-aggregate-say-entry Inv-loop μ-loop
 slice-aggregate-say-entry c = sym (length-take-le _ _ (slice-reshare-prefix-say-entry (c .before)))
 
 say-entry-requires : tie.Need-say-entry-requires Inv-loop μ-loop
-say-entry-requires c κs = subst (λ (xs : List ℕ). LineOf (imageMap (imageAt (c .before .before .before .before .before .before .before .before .before .before .before .before .before .before .before .before .before .before .before .before .before .before))) (c .before .before .before .before .before .before .before .before .before .before .before .loop .count) (take (c .before .before .length .given .0 .0) xs)) (sym (c .before .before .before .before .before .before .before .before .list-next .ensures .1 .1)) (line-of (c .before) .line-of)
+say-entry-requires c κs =
+    let start = c .before .before .before .before .before .before .before .before .before .before .before .before .before .before .before .before .before .before .before .before .before .before .before in
+    let i = imageAt start in
+    let text = subst (λ (xs : List ℕ). LineOf (imageMap i) (c .before .before .before .before .before .before .before .before .before .before .before .loop .progress .lines) (take (c .before .before .length .given .0 .0) xs)) (sym (c .before .before .before .before .before .before .before .before .list-next .ensures .1 .1)) (line-of (c .before) .line-of) in
+    (text, omega (arith, line-of (c .before) .inside, keys-few (imageMap i) (start .pre .0 .catalogue), length-prefixes i (start .pre .0), start .pre .1 .0))
+
+enum-known-further : tie.Need-enum-known-further Inv-loop μ-loop
+enum-known-further c = search needs
+
+-- a line more is written
+one-more : (c : tie.After-known-told3 Inv-loop μ-loop) → c .before .further .given .0 .0 .lines ≡ c .before .before .before .before .before .before .before .before .before .before .before .before .before .before .before .loop .progress .lines + 1
+one-more c = subst (SaidAt (c .before .before .before .before .before .before .before .before .before .before .before .before .before .before .before .loop .progress .lines)) (c .before .further .given .1) (c .before .before .before .say-entry .ensures)
+
+loop-less : tie.Need-loop-less Inv-loop μ-loop
+loop-less c = omega (arith, one-more c, line-of (c .before .before .before .before .before) .inside)
+
+loop-again : tie.Need-loop-again Inv-loop μ-loop
+loop-again c =
+    let t = line-of (c .before .before .before .before .before) in
+    let i = imageAt (c .before .before .before .before .before .before .before .before .before .before .before .before .before .before .before .before .before .before .before .before .before .before .before .before .before .before .before) in
+    (search needs, search needs, omega (arith, one-more c, t .inside), subst (λ (n : ℕ). Stands i (c .before .before .before .before .before .before .length .given .0 .1 .0) (drop n (imageMap i))) (sym (one-more c)) (t .stands))
+
+enum-known-failure : tie.Need-enum-known-failure Inv-loop μ-loop
+enum-known-failure c = search needs
 
 same-length : tie.Need-same-length Inv-loop μ-loop
 same-length c = search needs
@@ -93,19 +117,9 @@ same-length-2 : tie.Need-same-length-2 Inv-loop μ-loop
 same-length-2 c = search needs
 
 returns-2 : tie.Need-returns-2 Inv-loop μ-loop
-returns-2 c = line-of (c .before .before .before) .inside
-
-add-count : tie.Need-add-count Inv-loop μ-loop
-add-count c =
-    let i = imageAt (c .before .before .before .before .before .before .before .before .before .before .before .before .before .before .before .before .before .before .before .before .before .before .before .before) in
-    let whole = c .before .before .before .before .before .before .before .before .before .before .before .before .before .before .before .before .before .before .before .before .before .before .before .before .pre .0 in
-    omega (arith, line-of (c .before .before .before) .inside, keys-few (imageMap i) (whole .catalogue), length-prefixes i whole, whole .few)
-
-loop-less : tie.Need-loop-less Inv-loop μ-loop
-loop-less c = omega (arith, line-of (c .before .before .before) .inside)
-
-loop-again : tie.Need-loop-again Inv-loop μ-loop
-loop-again c = let t = line-of (c .before .before .before) in (search needs, search needs, omega (arith, t .inside), t .stands)
+returns-2 c =
+    let behind = subst (SaidAt (c .before .before .before .before .before .before .before .before .before .before .before .before .before .before .before .loop .progress .lines)) (c .before .failure .given .1) (c .before .before .before .say-entry .ensures) in
+    omega (arith, behind, line-of (c .before .before .before .before .before) .inside)
 
 enum-told-2 : tie.Need-enum-told-2 Inv-loop μ-loop
 enum-told-2 c = search needs
@@ -119,7 +133,7 @@ same-length-4 c = search needs
 returns-3 : tie.Need-returns-3 Inv-loop μ-loop
 returns-3 c =
     let i = c .before .before .before .before .before .before .before .before .before .loop in
-    omega (arith, i .inv .2, end-told (imageAt (c .before .before .before .before .before .before .before .before .before .before .before .before .before .before .before .before .before .before .before .before)) (c .before .before .before .before .before .before .before .before .before .before .before .before .before .before .before .before .before .before .before .before .pre .0) (i .cursor) (i .key) (i .line) (fits (c .before .before .before .before .before .before .before .before .before .before .before .before .before .before .before .before .before .before .before .before) (i .key) (i .line) (i .inv .0) (i .inv .1)) (i .count) (i .inv .3) (ap saidListed (sym (c .enum-told2 .given .1)) ∙ c .before .before .before .before .before .before .list-next .ensures .0))
+    omega (arith, i .inv .2, end-told (imageAt (c .before .before .before .before .before .before .before .before .before .before .before .before .before .before .before .before .before .before .before .before .before)) (c .before .before .before .before .before .before .before .before .before .before .before .before .before .before .before .before .before .before .before .before .before .pre .0) (i .cursor) (i .key) (i .line) (fits (c .before .before .before .before .before .before .before .before .before .before .before .before .before .before .before .before .before .before .before .before .before) (i .key) (i .line) (i .inv .0) (i .inv .1)) (i .progress .lines) (i .inv .3) (ap saidListed (sym (c .enum-told2 .given .1)) ∙ c .before .before .before .before .before .before .list-next .ensures .0))
 
 enum-told-3 : tie.Need-enum-told-3 Inv-loop μ-loop
 enum-told-3 c = search needs
@@ -133,7 +147,7 @@ same-length-6 c = search needs
 returns-4 : tie.Need-returns-4 Inv-loop μ-loop
 returns-4 c =
     let i = c .before .before .before .before .before .before .before .before .before .loop in
-    omega (arith, refusal-told (imageAt (c .before .before .before .before .before .before .before .before .before .before .before .before .before .before .before .before .before .before .before .before)) (c .before .before .before .before .before .before .before .before .before .before .before .before .before .before .before .before .before .before .before .before .pre .0) (i .cursor) (i .key) (i .line) (fits (c .before .before .before .before .before .before .before .before .before .before .before .before .before .before .before .before .before .before .before .before) (i .key) (i .line) (i .inv .0) (i .inv .1)) (i .count) (i .inv .3) _ (ap saidListed (sym (c .enum-told3 .given .1)) ∙ c .before .before .before .before .before .before .list-next .ensures .0))
+    omega (arith, refusal-told (imageAt (c .before .before .before .before .before .before .before .before .before .before .before .before .before .before .before .before .before .before .before .before .before)) (c .before .before .before .before .before .before .before .before .before .before .before .before .before .before .before .before .before .before .before .before .before .pre .0) (i .cursor) (i .key) (i .line) (fits (c .before .before .before .before .before .before .before .before .before .before .before .before .before .before .before .before .before .before .before .before .before) (i .key) (i .line) (i .inv .0) (i .inv .1)) (i .progress .lines) (i .inv .3) _ (ap saidListed (sym (c .enum-told3 .given .1)) ∙ c .before .before .before .before .before .before .list-next .ensures .0))
 
 enum-told-4 : tie.Need-enum-told-4 Inv-loop μ-loop
 enum-told-4 c = search needs
@@ -147,7 +161,7 @@ same-length-8 c = search needs
 returns-5 : tie.Need-returns-5 Inv-loop μ-loop
 returns-5 c =
     let i = c .before .before .before .before .before .before .before .before .before .loop in
-    omega (arith, refusal-told (imageAt (c .before .before .before .before .before .before .before .before .before .before .before .before .before .before .before .before .before .before .before .before)) (c .before .before .before .before .before .before .before .before .before .before .before .before .before .before .before .before .before .before .before .before .pre .0) (i .cursor) (i .key) (i .line) (fits (c .before .before .before .before .before .before .before .before .before .before .before .before .before .before .before .before .before .before .before .before) (i .key) (i .line) (i .inv .0) (i .inv .1)) (i .count) (i .inv .3) _ (ap saidListed (sym (c .enum-told4 .given .1)) ∙ c .before .before .before .before .before .before .list-next .ensures .0))
+    omega (arith, refusal-told (imageAt (c .before .before .before .before .before .before .before .before .before .before .before .before .before .before .before .before .before .before .before .before .before)) (c .before .before .before .before .before .before .before .before .before .before .before .before .before .before .before .before .before .before .before .before .before .pre .0) (i .cursor) (i .key) (i .line) (fits (c .before .before .before .before .before .before .before .before .before .before .before .before .before .before .before .before .before .before .before .before .before) (i .key) (i .line) (i .inv .0) (i .inv .1)) (i .progress .lines) (i .inv .3) _ (ap saidListed (sym (c .enum-told4 .given .1)) ∙ c .before .before .before .before .before .before .list-next .ensures .0))
 
 enum-told-5 : tie.Need-enum-told-5 Inv-loop μ-loop
 enum-told-5 c = search needs
@@ -161,7 +175,7 @@ same-length-10 c = search needs
 returns-6 : tie.Need-returns-6 Inv-loop μ-loop
 returns-6 c =
     let i = c .before .before .before .before .before .before .before .before .before .loop in
-    omega (arith, refusal-told (imageAt (c .before .before .before .before .before .before .before .before .before .before .before .before .before .before .before .before .before .before .before .before)) (c .before .before .before .before .before .before .before .before .before .before .before .before .before .before .before .before .before .before .before .before .pre .0) (i .cursor) (i .key) (i .line) (fits (c .before .before .before .before .before .before .before .before .before .before .before .before .before .before .before .before .before .before .before .before) (i .key) (i .line) (i .inv .0) (i .inv .1)) (i .count) (i .inv .3) _ (ap saidListed (sym (c .enum-told5 .given .1)) ∙ c .before .before .before .before .before .before .list-next .ensures .0))
+    omega (arith, refusal-told (imageAt (c .before .before .before .before .before .before .before .before .before .before .before .before .before .before .before .before .before .before .before .before .before)) (c .before .before .before .before .before .before .before .before .before .before .before .before .before .before .before .before .before .before .before .before .before .pre .0) (i .cursor) (i .key) (i .line) (fits (c .before .before .before .before .before .before .before .before .before .before .before .before .before .before .before .before .before .before .before .before .before) (i .key) (i .line) (i .inv .0) (i .inv .1)) (i .progress .lines) (i .inv .3) _ (ap saidListed (sym (c .enum-told5 .given .1)) ∙ c .before .before .before .before .before .before .list-next .ensures .0))
 
 pub write-listing-spec : {M : Type 1} → statement M
 write-listing-spec =
@@ -174,18 +188,20 @@ write-listing-spec =
     enum-known-start
     enum-told
     returns
+    no-lines-requires
     loop-holds
     list-next-requires
     enum-known-length
     slice-reshare-prefix-say-entry
     slice-aggregate-say-entry
     say-entry-requires
+    enum-known-further
+    loop-less
+    loop-again
+    enum-known-failure
     same-length
     same-length-2
     returns-2
-    add-count
-    loop-less
-    loop-again
     enum-told-2
     same-length-3
     same-length-4

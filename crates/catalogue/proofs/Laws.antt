@@ -1,5 +1,6 @@
 -- The laws of the definitions, and what the program writes. Assumes nothing.
 pub mod Filling
+pub mod TextAnswers
 pub mod Building
 pub mod Count
 pub mod GivenLine

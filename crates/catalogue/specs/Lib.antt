@@ -1,4 +1,5 @@
 pub mod Reading
 pub mod Filling
+pub mod TextAnswers
 pub mod Listing
 pub mod Program

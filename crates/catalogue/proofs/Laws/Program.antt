@@ -1,6 +1,7 @@
 -- What the program writes. A text of lines that are all entries of nonempty keys, with room for their prefixes, is pushed whole, its map is built whole,
 -- and the lines written, one after the other, are the text of that map: each key once, in byte order, with its last value.
 --
+--     program-says      what the program's pool answers of a text is told by the text alone, and `program-told`: when each answer comes
 --     program-writes    that, for every call that the program makes, from a pool and buffers of its lengths
 -- Assumes nothing.
 use mathlib.Core.Path.{_≡_, sym, ap, subst, _∙_}
@@ -30,13 +31,24 @@ use Rattle.lines.specs.Text.{entryLines}
 use Rattle.lines.specs.Writing.{mapText}
 use Rattle.lines.proofs.Laws.Writing.{tabEntry-plain}
 use Rattle.catalogue.specs.Filling.{fileLimit, fillSays, fileSays, filePool, entriesIn, AllEntries}
+use Rattle.catalogue.specs.TextAnswers.{textSays}
 use Rattle.catalogue.specs.Listing.{Lists, written}
 use Rattle.catalogue.specs.Program.{programCapacity, poolLength, wordsLength, lineLength, Writes}
 use Rattle.catalogue.proofs.Laws.Filling.{AllBytes, Holding, key-bytes, lines-bytes, file-short, reset-fills, fill-accepts}
+use Rattle.catalogue.proofs.Laws.TextAnswers.{Told, text-told, file-text}
 use Rattle.catalogue.proofs.Laws.Building.{map-image, built-image}
 use Rattle.catalogue.proofs.Laws.Standing.{Fit}
 use Rattle.catalogue.proofs.Laws.Rooms.{rooms-fit}
 use Rattle.catalogue.proofs.Laws.WholeListing.{lists-map}
+
+module _ (text : List ℕ) (bytes : Bytes text) (p : Pool) (size : length p ≡ poolLength) where
+  pub program-says : fileSays p text ≡ textSays programCapacity text
+  program-says =
+      let room : capacity p ≡ programCapacity = omega (arith, size) in
+      file-text p (omega (arith, size)) text bytes ∙ ap (λ (most : ℕ). textSays most text) room
+
+  pub program-told : Told programCapacity text (fileSays p text)
+  program-told = subst (Told programCapacity text) (sym program-says) (text-told programCapacity text)
 
 -- the entries of lines make a catalogue
 entries-catalogue : (ls : List (List ℕ)) (m : Map) → Catalogue m → AllBytes ls → AllEntries ls → Catalogue (insertAll (entriesIn ls) m)

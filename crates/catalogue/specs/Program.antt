@@ -1,7 +1,7 @@
 -- The program as a whole (01, module 8): its room, and what it writes of a text that it accepts.
 --
 --     programCapacity   "a pool of capacity 2,048"; `poolLength`, `wordsLength`, `lineLength` follow from it
---     Writes            all lines are pushed, the image is built, and the lines listed are the text of the map of the entries
+--     Writes            the image is built, and the lines listed are the text of the map of the entries
 -- Assumes nothing.
 use Prim.Native.Nat.{ℕ, _+_, _*_, _/_}
 use mathlib.Core.Path.{_≡_}
@@ -18,7 +18,7 @@ use Rattle.lines.specs.Text.{entryLines}
 use Rattle.lines.specs.Writing.{mapText}
 use Rattle.trie.specs.declared.Cursor.{Cursor}
 use Rattle.catalogue.specs.declared.listing.Listed.{Listed}
-use Rattle.catalogue.specs.Filling.{fileSays, filePool, entriesIn}
+use Rattle.catalogue.specs.Filling.{filePool, entriesIn}
 use Rattle.catalogue.specs.Listing.{Lists, written}
 
 abbrev pub programCapacity : ℕ
@@ -42,7 +42,6 @@ textMap text = insertAll (entriesIn (entryLines text)) []
 
 -- p is the pool before the reset; the others are the buffers before the build
 pub record Writes (p : Pool) (text labels values words scratch : List ℕ) : Type 0 where
-  pub pushed : fileSays p text ≡ 0 ∷ []
   pub built : buildSays (filePool p text) labels values words scratch ≡ 0 ∷ length (prefixes (textMap text)) ∷ []
   pub listed : (cursor : ℕ → Cursor) (key line : ℕ → List ℕ) (answer : ℕ → Listed) → length (key 0) ≡ programCapacity → length (line 0) ≡ lineLength
       → Lists

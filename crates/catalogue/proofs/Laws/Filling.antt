@@ -6,7 +6,6 @@
 --     fill-means                       lines accepted whole leave a sound pool of the same length that holds the inserts of their entries
 --     reset-fills                      a text accepted whole after a reset leaves the map of its entries, and its image is the image of that map
 --     filled-sound                     and the pool is sound, by the answer
---     fill-accepts                     lines that are all entries of nonempty keys, for which there is room, are accepted whole
 --     lines-bytes, key-bytes           the lines of bytes are of bytes, and so are their keys; `bytes-of`: each element below the limit
 -- Assumes nothing.
 use mathlib.Core.Path.{_≡_, refl, sym, ap, _∙_}
@@ -21,24 +20,18 @@ use borrow.Author.Tests.{lt-ltb, le-ltb, eq-eqb, ne-eqb, eqb-false}
 use Rattle.keymap.specs.Limits.{byteLimit}
 use Rattle.keymap.specs.Key.{Key, Bytes}
 use Rattle.keymap.specs.Map.{Entry, Map, insert, insertAll}
-use Rattle.keymap.specs.Prefixes.{prefixes}
 use Rattle.keymap.specs.Refusals.{Refusal, refusalNumber}
 use Rattle.keymap.proofs.Laws.Begins.{bytes-prefix, prefix-leading}
-use Rattle.keymap.proofs.Laws.Map.{insert-rising}
-use Rattle.keymap.proofs.Laws.Prefixes.{prefixes-insert}
 use Rattle.keymap.specs.Image.{image}
-use Rattle.records.specs.Words.{Pool, recordWords, capacity}
+use Rattle.records.specs.Words.{Pool, recordWords}
 use Rattle.records.specs.Sound.{Sound}
 use Rattle.records.specs.Meaning.{poolMap}
-use Rattle.records.proofs.Laws.Meaning.{map-rising}
 use Rattle.pool.specs.Answers.{accepted}
 use Rattle.pool.specs.Reset.{resetPool}
 use Rattle.pool.specs.Push.{pushSays, pushPool}
-use Rattle.pool.specs.History.{Call}
 use Rattle.pool.proofs.Laws.Reset.{reset-sound}
 use Rattle.pool.proofs.Laws.Push.{push-keeps, length-push}
 use Rattle.pool.proofs.Laws.Meaning.{reset-means-empty, push-means-insert}
-use Rattle.pool.proofs.Laws.History.{call-says, prefixes-insertAll, fits-says}
 use Rattle.image.specs.LevelOrder.{poolImage}
 use Rattle.image.proofs.Laws.PoolImage.{image-pool}
 use Rattle.lines.specs.Bytes.{tab, lineFeed, stretch}
@@ -46,7 +39,7 @@ use Rattle.lines.specs.TabLine.{keyPart, tabEntry, entrySays, entryKey, tabLine
 use Rattle.lines.specs.Text.{inFirst, linesOf, entryLines}
 use Rattle.lines.proofs.Laws.TabLine.{tabEntry-some}
 use Rattle.catalogue.specs.declared.filling.Filled as answers
-use Rattle.catalogue.specs.Filling.{fileLimit, saidFilled, SoundIf, lineSays, linePool, fillFrom, leftFrom, fillSays, fillPool, fileSays, filePool, entriesIn, AllEntries}
+use Rattle.catalogue.specs.Filling.{fileLimit, saidFilled, SoundIf, lineSays, linePool, fillFrom, leftFrom, fillSays, fillPool, fileSays, filePool, entriesIn}
 
 -- ---- one line
 
@@ -190,26 +183,3 @@ pub filled-sound : (p : Pool) → recordWords ≤ length p → (text : List ℕ)
 filled-sound p h text b answers.Filled.Done said = reset-fills p h text b (sym said) .sound
 filled-sound p h text b (answers.Filled.Refused number line) said = tt
 filled-sound p h text b answers.Filled.TooLong said = tt
-
--- ---- and when they are accepted whole
-
--- a key for which there is room is accepted
-push-fits : (p : Pool) → Sound p → (k : Key) (v : ℕ) → ¬ (k ≡ []) → length (prefixes (insert k v (poolMap p))) ≤ capacity p → pushSays p k ≡ 0 ∷ []
-push-fits p s k v d few = call-says p s (Call.push k v) ∙ fits-says (capacity p) (poolMap p) k v d few
-
-pub fill-accepts : (ls : List (List ℕ)) (n : ℕ) (p : Pool) → Sound p → AllBytes ls → AllEntries ls
-    → length (prefixes (insertAll (entriesIn ls) (poolMap p))) ≤ capacity p → fillFrom n p ls ≡ 0 ∷ []
-unfolding fillFrom entriesIn insertAll
-fill-accepts [] n p s b a few = refl
-fill-accepts (l ∷ ls) n p s b ((e, f, d), a) few =
-    let kb : Bytes (e .0) = key-bytes l e f (b .0) in
-    let m : Map = insert (e .0) (e .1) (poolMap p) in
-    let whole : length (prefixes (insertAll (entriesIn ls) m)) ≤ capacity p = rw f at few in
-    let room : length (prefixes m) ≤ capacity p = omega (arith, prefixes-insertAll (entriesIn ls) m (insert-rising (e .0) (e .1) (poolMap p) (map-rising p s))) in
-    let says : pushSays p (e .0) ≡ 0 ∷ [] = push-fits p s (e .0) (e .1) d room in
-    let yes-said : accepted (pushSays p (e .0)) ≡ true = ap accepted says in
-    let q : Pool = pushPool p (e .0) (e .1) in
-    let holds : poolMap q ≡ m = push-means-insert p (e .0) (e .1) kb yes-said in
-    let same : length q ≡ length p = length-push p (e .0) (e .1) kb in
-    rw (f, yes-said)
-    (fill-accepts ls (suc n) q (push-keeps p (e .0) (e .1) kb s) (b .1) a (rw (holds, same) whole))

@@ -1,5 +1,5 @@
--- What the program writes. A text of lines that are all entries of nonempty keys, with room for their prefixes, is pushed whole, its map is built whole,
--- and the lines written, one after the other, are the text of that map: each key once, in byte order, with its last value.
+-- What the program writes. Of a text that is pushed whole the map is built whole, and the lines written, one after the other, are the text of that map:
+-- each key once, in byte order, with its last value.
 --
 --     program-says      what the program's pool answers of a text is told by the text alone, and `program-told`: when each answer comes
 --     program-writes    that, for every call that the program makes, from a pool and buffers of its lengths
@@ -19,9 +19,6 @@ use Rattle.keymap.specs.Decode.{imageMap}
 use Rattle.keymap.proofs.Laws.Map.{insert-catalogue}
 use Rattle.keymap.proofs.Laws.Image.{imageMap-image}
 use Rattle.records.specs.Words.{Pool, recordWords, capacity}
-use Rattle.pool.specs.Reset.{resetPool}
-use Rattle.pool.proofs.Laws.Reset.{reset-sound, length-reset}
-use Rattle.pool.proofs.Laws.Meaning.{reset-means-empty}
 use Rattle.pool.proofs.Laws.History.{empty-catalogue}
 use Rattle.image.specs.Build.{buffersFit, fitSays, buildSays, buildLabels, buildValues, buildWords}
 use Rattle.image.specs.Meaning.{lent, MapImage}
@@ -30,12 +27,12 @@ use Rattle.lines.specs.TabLine.{tabEntry}
 use Rattle.lines.specs.Text.{entryLines}
 use Rattle.lines.specs.Writing.{mapText}
 use Rattle.lines.proofs.Laws.Writing.{tabEntry-plain}
-use Rattle.catalogue.specs.Filling.{fileLimit, fillSays, fileSays, filePool, entriesIn, AllEntries}
+use Rattle.catalogue.specs.Filling.{fileSays, filePool, entriesIn, AllEntries}
 use Rattle.catalogue.specs.TextAnswers.{textSays}
 use Rattle.catalogue.specs.Listing.{Lists, written}
 use Rattle.catalogue.specs.Program.{programCapacity, poolLength, wordsLength, lineLength, Writes}
-use Rattle.catalogue.proofs.Laws.Filling.{AllBytes, Holding, key-bytes, lines-bytes, file-short, reset-fills, fill-accepts}
-use Rattle.catalogue.proofs.Laws.TextAnswers.{Told, text-told, file-text}
+use Rattle.catalogue.proofs.Laws.Filling.{AllBytes, Holding, key-bytes, lines-bytes, file-short, reset-fills}
+use Rattle.catalogue.proofs.Laws.TextAnswers.{Told, Whole, text-told, text-whole, file-text}
 use Rattle.catalogue.proofs.Laws.Building.{map-image, built-image}
 use Rattle.catalogue.proofs.Laws.Standing.{Fit}
 use Rattle.catalogue.proofs.Laws.Rooms.{rooms-fit}
@@ -57,35 +54,26 @@ entries-catalogue [] m c b a = c
 entries-catalogue (l ∷ ls) m c b ((e, f, d), a) =
     rw f (entries-catalogue ls (insert (e .0) (e .1) m) (insert-catalogue (e .0) (e .1) m d (key-bytes l e f (b .0)) (tabEntry-plain l e f .value) c) (b .1) a)
 
-module _ (text : List ℕ) (bytes : Bytes text) (short : length text ≤ fileLimit) (entries : AllEntries (entryLines text))
-    (few : length (prefixes (insertAll (entriesIn (entryLines text)) [])) ≤ programCapacity) (p : Pool) (size : length p ≡ poolLength) where
+module _ (text : List ℕ) (bytes : Bytes text) (p : Pool) (size : length p ≡ poolLength) (says : fileSays p text ≡ 0 ∷ []) where
   abbrev m : Map
   m = insertAll (entriesIn (entryLines text)) []
 
   rooted : recordWords ≤ length p
   rooted = omega (arith, size)
 
-  all-bytes : AllBytes (entryLines text)
-  all-bytes = lines-bytes text bytes
+  accepted-text : Whole programCapacity text
+  accepted-text = text-whole programCapacity text .0 (sym (program-says text bytes p size) ∙ says)
+
+  few : length (prefixes m) ≤ programCapacity
+  few = accepted-text .few
 
   catalogue : Catalogue m
-  catalogue = entries-catalogue (entryLines text) [] empty-catalogue all-bytes entries
-
-  room : capacity (resetPool p) ≡ programCapacity
-  room = omega (arith, length-reset p, size)
-
-  said : fillSays (resetPool p) (entryLines text) ≡ 0 ∷ []
-  unfolding fillSays
-  said =
-      fill-accepts (entryLines text) 1 (resetPool p) (reset-sound p rooted) all-bytes entries
-      (subst (λ (n : Map). length (prefixes (insertAll (entriesIn (entryLines text)) n)) ≤ capacity (resetPool p)) (sym (reset-means-empty p rooted))
-      (omega (arith, room, few)))
-
-  says : fileSays p text ≡ 0 ∷ []
-  says = sym (file-short p text short .0) ∙ said
+  catalogue = entries-catalogue (entryLines text) [] empty-catalogue (lines-bytes text bytes) (accepted-text .entries)
 
   left : Holding (filePool p text) m
-  left = subst (λ (q : Pool). Holding q m) (file-short p text short .1) (reset-fills p rooted text bytes said)
+  left =
+      let short = file-short p text (accepted-text .short) in
+      subst (λ (q : Pool). Holding q m) (short .1) (reset-fills p rooted text bytes (short .0 ∙ says))
 
   module _ (ls vs ws qs : List ℕ) (ls-long : length ls ≡ programCapacity) (vs-long : length vs ≡ programCapacity) (ws-long : length ws ≡ wordsLength) (qs-long : length qs ≡ programCapacity) where
     abbrev n : ℕ
@@ -112,7 +100,6 @@ module _ (text : List ℕ) (bytes : Bytes text) (short : length text ≤ fileLim
     pub program-writes : Writes p text ls vs ws qs
     program-writes =
         record {
-          pushed = says;
           built = sym built;
           listed =
               λ cursor key line answer k l run.

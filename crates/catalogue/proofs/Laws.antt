@@ -1,4 +1,5 @@
 -- The laws of the definitions, and what the program writes. Assumes nothing.
+pub mod Answers
 pub mod Filling
 pub mod TextAnswers
 pub mod Building

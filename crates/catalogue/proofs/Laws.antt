@@ -11,3 +11,4 @@ pub mod Standing
 pub mod Rooms
 pub mod WholeListing
 pub mod Program
+pub mod RefusedText

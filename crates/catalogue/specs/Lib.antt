@@ -3,3 +3,4 @@ pub mod Filling
 pub mod TextAnswers
 pub mod Listing
 pub mod Program
+pub mod RefusedText

@@ -1,4 +1,6 @@
 // What the program writes.
+pub mod refusal;
+
 ghost use mathlib.Core.Path.{_≡_};
 ghost use Prim.Native.Nat.{_<_};
 ghost use Rattle.keymap.specs.Decode.{imageMap};
@@ -6,6 +8,8 @@ ghost use Rattle.image.specs.Meaning.{lent};
 ghost use Rattle.catalogue.specs.Listing.{LineOf, SaidAt};
 ghost use Rattle.catalogue.specs.Program.{programCapacity};
 use libc::STDOUT_FILENO;
+use refusal::REFUSED_ROOM;
+use refusal::put_refused;
 
 // The first so many lines of a listing are written. No other module can make one, so that a line counts only where it was written.
 pub struct Progress {
@@ -53,10 +57,9 @@ pub fn say(text: &[u8]) -> bool {
     io::write_all(STDOUT_FILENO, text)
 }
 
+// Writes the text of a refusal, in one piece.
 pub fn say_refused(number: u32, line: usize) {
-    say(b"refused ");
-    io::print_decimal(STDOUT_FILENO, number as u64);
-    say(b" line ");
-    io::print_decimal(STDOUT_FILENO, line as u64);
-    say(b"\n");
+    let mut text = [0u8; REFUSED_ROOM];
+    let length = put_refused(number, line, &mut text);
+    say(&text[..length]);
 }

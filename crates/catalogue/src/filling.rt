@@ -7,7 +7,8 @@ ghost use Rattle.pool.specs.Answers.{saidPushed};
 ghost use Rattle.lines.specs.TabLine.{tabEntry};
 ghost use Rattle.lines.specs.Text.{linesOf, entryLines};
 ghost use Rattle.catalogue.specs.Filling.{saidFilled, lineSays, linePool, fillFrom, leftFrom, fillSays, fillPool, fileSays, filePool, SoundIf};
-ghost use Rattle.catalogue.specs.Program.{poolLength};
+ghost use Rattle.catalogue.specs.TextAnswers.{textSays};
+ghost use Rattle.catalogue.specs.Program.{programCapacity, poolLength};
 use lines::answers::Cut;
 use lines::answers::Parsed;
 use pool::answers::Pushed;
@@ -30,6 +31,7 @@ pub fn fill(text: &[u8], pool: &mut [u32]) -> Filled
     ensures answer { λ r. ⌜ saidFilled r ≡ fileSays (now (pool .entry)) (now (text .entry)) ⌝ }
     ensures left { λ _. ⌜ now (pool .exit) ≡ filePool (now (pool .entry)) (now (text .entry)) ⌝ }
     ensures sound { λ r. ⌜ SoundIf r (now (pool .exit)) ⌝ }
+    ensures text { λ r. ⌜ saidFilled r ≡ textSays programCapacity (now (text .entry)) ⌝ }
 {
     if FILE_LIMIT < text.len() {
         return Filled::TooLong;

@@ -85,7 +85,7 @@ slice-aggregate-write-pool-7 c = search needs
 
 write-pool-requires : tie.Need-write-pool-requires
 write-pool-requires c κs =
-    let sound = subst (λ (r : Filled). SoundIf r (c .before .before .before .before .before .before .before .before .before .before .fill .last .1 .0)) (c .before .before .before .before .before .before .before .enum-told3 .given .1) (c .before .before .before .before .before .before .before .before .before .before .fill .ensures .1 .1) in
+    let sound = subst (λ (r : Filled). SoundIf r (c .before .before .before .before .before .before .before .before .before .before .fill .last .1 .0)) (c .before .before .before .before .before .before .before .enum-told3 .given .1) (c .before .before .before .before .before .before .before .before .before .before .fill .ensures .1 .1 .0) in
     (sound, (omega (arith, c .before .before .before .before .before .before .before .before .before .before .fill .kept .1 .0), (search needs, (search needs, (search needs, (search needs, (search needs, search needs)))))))
 
 returns-2 : tie.Need-returns-2

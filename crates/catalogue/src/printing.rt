@@ -11,12 +11,12 @@ use libc::STDOUT_FILENO;
 use refusal::REFUSED_ROOM;
 use refusal::put_refused;
 
-// The first so many lines of a listing are written. No other module can make one, so that a line counts only where it was written.
+// The first so many lines of a listing are written. Nothing outside this module can make one, so that a line counts only where it was written.
 pub struct Progress {
     lines: usize,
 }
 
-// A write failed behind so many lines. No other module can make one.
+// A write failed behind so many lines. Nothing outside this module can make one.
 pub struct Failure {
     lines: usize,
 }

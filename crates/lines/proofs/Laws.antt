@@ -1,3 +1,4 @@
+-- The laws of the definitions, a file for each file of specs/ and what serves them. Assumes nothing.
 pub mod Bytes
 pub mod Decimal
 pub mod Numerals

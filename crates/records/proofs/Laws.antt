@@ -1,3 +1,4 @@
+-- The laws of the definitions, a file for each file of specs/ and what serves them. Assumes nothing.
 pub mod Distinct
 pub mod Words
 pub mod Sound

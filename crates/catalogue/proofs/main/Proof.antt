@@ -1,5 +1,5 @@
 -- `catalogue::main` is safe and ends: what was read stands within the room, the rooms are the specification's, and a pool that was filled is sound. Assumes nothing.
-use mathlib.Core.Path.{subst}
+use mathlib.Core.Path.{refl, subst}
 use native.Mathlib.Omega.{arith}
 use borrow.Author.Needs.{needs}
 use Rattle.catalogue.specs.declared.filling.Filled.{Filled}
@@ -9,7 +9,7 @@ use Rattle.catalogue.proofs.main.Statement.{statement}
 use Rattle.catalogue.proofs.main.Tie as tie
 
 slice-aggregate-read-file : tie.Need-slice-aggregate-read-file
-slice-aggregate-read-file c = search needs
+slice-aggregate-read-file c = refl
 
 slice-aggregate-read-file-2 : tie.Need-slice-aggregate-read-file-2
 slice-aggregate-read-file-2 c = search needs
@@ -18,10 +18,10 @@ read-file-requires : tie.Need-read-file-requires
 read-file-requires c κs = omega arith
 
 enum-known-length : tie.Need-enum-known-length
-enum-known-length c = search needs
+enum-known-length c = c .match .keys1
 
 enum-told : tie.Need-enum-told
-enum-told c = search needs
+enum-told c = c .match .keys2
 
 slice-aggregate-say : tie.Need-slice-aggregate-say
 slice-aggregate-say c = search needs
@@ -45,7 +45,7 @@ fill-requires : tie.Need-fill-requires
 fill-requires c κs = omega arith
 
 enum-told-2 : tie.Need-enum-told-2
-enum-told-2 c = search needs
+enum-told-2 c = c .match2 .keys1
 
 slice-aggregate-say-2 : tie.Need-slice-aggregate-say-2
 slice-aggregate-say-2 c = search needs
@@ -54,13 +54,13 @@ say-requires-2 : tie.Need-say-requires-2
 say-requires-2 c κs = search needs
 
 enum-known-number : tie.Need-enum-known-number
-enum-known-number c = search needs
+enum-known-number c = c .match2 .keys2
 
 say-refused-requires : tie.Need-say-refused-requires
 say-refused-requires c κs = search needs
 
 enum-told-3 : tie.Need-enum-told-3
-enum-told-3 c = search needs
+enum-told-3 c = c .match2 .keys3
 
 slice-aggregate-write-pool : tie.Need-slice-aggregate-write-pool
 slice-aggregate-write-pool c = search needs

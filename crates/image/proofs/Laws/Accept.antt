@@ -9,6 +9,7 @@
 --     accepted-forest     the image is that of the trie that is decoded from it
 --     accepted-orderly    which is orderly
 --     accepted-bytes      and has bytes for labels
+--     node-same           equal answers have equal numbers: of a parent, and `run-count` of a run of children
 -- Assumes nothing.
 use mathlib.Core.Path.{_≡_, refl, sym, ap, ap₂, _∙_, subst}
 use mathlib.Core.Logic.{_↔_, ⊎-elim}
@@ -31,6 +32,7 @@ use Rattle.keymap.proofs.Laws.Sums.{sumBelow-zero, sumBelow-suc, sumBelow-lt, s
 use Rattle.keymap.proofs.Laws.Bits.{bit-small, bit-either, length-unpack, getD-unpack, unpack-small, pack-unpack}
 use Rattle.keymap.proofs.Laws.Degrees.{sequence-unary, unary-degreesFrom, length-sequence}
 use Rattle.keymap.proofs.Laws.Shape.{Shape, shape-image, shape-orderly, shape-bytes, shape-map, shape-few, shape-catalogue, map-shape}
+use Rattle.louds.specs.declared.Kids.the-variants.{Run}
 use Rattle.louds.specs.declared.Up.the-variants.{Node}
 use Rattle.louds.specs.Rank.{onesBefore, zerosBefore}
 use Rattle.louds.proofs.Laws.Rank.{ones-zeros, zeros-ext}
@@ -38,6 +40,17 @@ use Rattle.louds.proofs.Laws.Select.{kth-rank}
 use Rattle.louds.proofs.Laws.Nodes.{child-of-parent, parent-at}
 use Rattle.image.specs.Accept.{entries, entryOf, parentIn, kidsIn, ParentBelow, HasChild, Accepted, OfMap, Lent}
 use Rattle.image.proofs.Laws.Spelled.{inList, Spelled, zeros-sequence, spelled-words, spelled-unused, spelled-first, spelled-zeros, spelled-ones, spelled-within, spelled-children, spelled-parent, ChildOf, spelled-parent-of, child-parent}
+
+-- ---- equal answers have equal numbers
+
+pub node-same : (x y : ℕ) → Node x ≡ Node y → x ≡ y
+node-same x y e = cc
+
+run-first : (f c g d : ℕ) → Run f c ≡ Run g d → f ≡ g
+run-first f c g d e = cc
+
+pub run-count : (f c g d : ℕ) → Run f c ≡ Run g d → c ≡ d
+run-count f c g d e = cc
 
 -- ---- an image of the shape is accepted
 
@@ -90,7 +103,7 @@ module _ (i : Image) (d : ℕ) (ds : List ℕ) (c : Shape i d ds) where
       rising l m less same p q =
           let up = child-parent i (d ∷ ds) shape-spelled p in
           let up′ = child-parent i (d ∷ ds) shape-spelled q in
-          let e : p .index + 1 ≡ q .index + 1 = cc in
+          let e : p .index + 1 ≡ q .index + 1 = node-same _ _ (sym up ∙ same ∙ up′) in
           let k : p .index ≡ q .index = omega arith in
           let sums : sum (p .index) ≡ sum (q .index) = ap sum k in
           let run = run-rises (q .index) (p .child) (q .child - p .child - 1) (q .index-within) (omega (arith, p .number, q .number, q .child-within)) in
@@ -138,7 +151,7 @@ module _ (i : Image) (a : Accepted i) where
       let q = a .parents (onesBefore b p + 1) (omega arith) (omega (arith, a .ones, sumBelow-suc b p)) in
       let u = one-parent i p (onesBefore b p + 1) h e refl in
       let s = q .answer in
-      let z : q .number ≡ zerosBefore b p = cc in
+      let z : q .number ≡ zerosBefore b p = node-same _ _ (sym s ∙ u) in
       (omega (arith, q .low), omega (arith, q .high))
 
   pub accepted-second : b 1 ≡ 0
@@ -209,8 +222,8 @@ module _ (i : Image) (a : Accepted i) where
             let j : ℕ = q .number - 1 in
             let at : q .number ≡ j + 1 = omega (arith, q .low) in
             let run = sym (r .answer) ∙ ap (kidsIn i) at ∙ spelled-children i spells spells-spelled j (omega (arith, q .high)) in
-            let first : r .first ≡ sums j + 2 = cc in
-            let count : r .count ≡ getD spells j 0 = cc in
+            let first : r .first ≡ sums j + 2 = run-first _ _ _ _ run in
+            let count : r .count ≡ getD spells j 0 = run-count _ _ _ _ run in
             let past = sumBelow-lt (inList spells) k (suc j) (omega (arith, r .high, first, count, sumBelow-suc (inList spells) j)) in
             omega (arith, q .high, past)
 
@@ -228,7 +241,7 @@ module _ (i : Image) (a : Accepted i) where
         let c = a .plain (e + 2) (omega arith) (omega arith) (rw back u) .1 in
         let at : suc e + 1 ≡ e + 2 = omega arith in
         let run = sym (c .answer) ∙ ap (kidsIn i) (sym at) ∙ spelled-children i spells spells-spelled (suc e) h in
-        let count : c .count ≡ getD spells (suc e) 0 = cc in
+        let count : c .count ≡ getD spells (suc e) 0 = run-count _ _ _ _ run in
         omega (arith, c .some)
 
     entry-rises : (k j : ℕ) → k ≤ n → j + 1 < getD spells k 0 → labelIn (getD (i .labels) (sums k + j) 0) < labelIn (getD (i .labels) (sums k + j + 1) 0)

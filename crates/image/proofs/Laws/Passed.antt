@@ -32,7 +32,7 @@ use Rattle.louds.proofs.Laws.Rank.{gap-small, gap-zero, bit-gap, ones-zeros}
 use Rattle.louds.proofs.Laws.Select.{Stands, rank-kth, kth-rank, kth-exists}
 use Rattle.louds.proofs.Laws.Nodes.{children-to-zero}
 use Rattle.image.specs.Accept.{entries, entryOf, valueOf, parentIn, ParentBelow, HasChild, Accepted, Lent}
-use Rattle.image.proofs.Laws.Accept.{one-parent, accepted-climbs, accepted-second}
+use Rattle.image.proofs.Laws.Accept.{node-same, run-count, one-parent, accepted-climbs, accepted-second}
 use Rattle.image.proofs.Laws.AcceptTest.{bitFits-one, bitFits-closing, bitFits-childless}
 use Rattle.image.specs.AcceptTest.{childlessFits, bitFits, passesFrom, lengthsFit, endsFit, imageTest}
 use Rattle.image.proofs.Laws.BitTests.{both, OneFits, oneFits-told, oneFits-made, childlessFits-told, childlessFits-made}
@@ -158,7 +158,7 @@ module _ (i : Image) where
     sibling-before l m p h less same =
         let up = p .parent in
         let up′ = h .parent in
-        let zeros : zerosBefore b (suc (p .before)) ≡ zerosBefore b (suc (h .before)) = cc in
+        let zeros : zerosBefore b (suc (p .before)) ≡ zerosBefore b (suc (h .before)) = node-same _ _ (sym up ∙ same ∙ up′) in
         let after = sumBelow-lt b (suc (p .before)) (suc (h .before)) (omega (arith, p .rank, h .rank)) in
         omega (arith, sumBelow-mono (gap b) {i = suc (p .before)} {j = h .before} (omega arith), sumBelow-suc (gap b) (h .before), bit-gap b small (h .before))
 
@@ -263,7 +263,7 @@ module _ (i : Image) where
             let c = a .plain m l few (omega arith) .1 in
             let run = children-to-zero b small (bitsFor n) m q (suc q) closes follows .1 in
             let told = c .answer in
-            let none : c .count ≡ suc q - (q + 1) = cc in
+            let none : c .count ≡ suc q - (q + 1) = run-count _ _ _ _ (sym told ∙ run) in
             absurd (omega (arith, c .some))
 
     accepted-each : (q : ℕ) → 1 ≤ q → suc q < bitsFor n → FitsAfter q

@@ -30,10 +30,10 @@ next-line-requires : tie.Need-next-line-requires Inv-loop μ-loop
 next-line-requires c κs = search needs
 
 enum-known-end : tie.Need-enum-known-end Inv-loop μ-loop
-enum-known-end c = search needs
+enum-known-end c = c .match .keys1
 
 enum-told : tie.Need-enum-told Inv-loop μ-loop
-enum-told c = search needs
+enum-told c = c .match .keys2
 
 same-length : tie.Need-same-length Inv-loop μ-loop
 same-length c = search needs
@@ -91,8 +91,8 @@ loop-again c =
     let left = c .before .before .before .push-line .ensures .1 in (
       omega (arith, k .moves, i .inv .0),
       c .before .before .before .push-line .kept .1 .0 ∙ i .inv .1,
-      i .inv .2 ∙ ap (fillFrom (i .line) (i .pool)) (k .lines) ∙ goes .0 ∙ (cc (left, add-one (i .line))),
-      i .inv .3 ∙ ap (leftFrom (i .pool)) (k .lines) ∙ goes .1 ∙ (cc (left)),
+      i .inv .2 ∙ ap (fillFrom (i .line) (i .pool)) (k .lines) ∙ goes .0 ∙ rw (left, add-one (i .line)),
+      i .inv .3 ∙ ap (leftFrom (i .pool)) (k .lines) ∙ goes .1 ∙ rw left,
     )
 
 pub push-from-spec : {M : Type 1} → statement M

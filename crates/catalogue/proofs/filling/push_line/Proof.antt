@@ -14,7 +14,7 @@ tab-line-requires : tie.Need-tab-line-requires
 tab-line-requires c κs = search needs
 
 enum-known-number : tie.Need-enum-known-number
-enum-known-number c = search needs
+enum-known-number c = c .match .keys1
 
 tab-line-key-requires : tie.Need-tab-line-key-requires
 tab-line-key-requires c κs = search needs
@@ -26,7 +26,7 @@ push-number-requires : tie.Need-push-number-requires
 push-number-requires c κs = search needs
 
 enum-told : tie.Need-enum-told
-enum-told c = search needs
+enum-told c = c .match .keys2
 
 same-length : tie.Need-same-length
 same-length c = search needs

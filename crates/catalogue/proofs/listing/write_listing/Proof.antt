@@ -1,6 +1,6 @@
 -- `catalogue::listing::write_listing` meets its contract and ends: line after line, the cursor stands before the entry that has the number of lines written,
 -- so that what is written is that entry's text. Assumes nothing.
-use mathlib.Core.Path.{_≡_, sym, ap, subst, _∙_}
+use mathlib.Core.Path.{_≡_, refl, sym, ap, subst, _∙_}
 use mathlib.Core.List.{List}
 use Prim.Native.Nat.{ℕ, _+_, _-_, _≤_}
 use native.Mathlib.Omega.{arith}
@@ -48,10 +48,10 @@ predictive-search-requires : tie.Need-predictive-search-requires Inv-loop μ-loo
 predictive-search-requires c κs = search needs
 
 enum-known-start : tie.Need-enum-known-start Inv-loop μ-loop
-enum-known-start c = search needs
+enum-known-start c = c .match .keys1
 
 enum-told : tie.Need-enum-told Inv-loop μ-loop
-enum-told c = search needs
+enum-told c = c .match .keys2
 
 returns : tie.Need-returns Inv-loop μ-loop
 returns c = start-told (imageAt (c .before .before .before .before .before .before .before .before .before)) (c .before .before .before .before .before .before .before .before .before .pre .0) _ (ap saidStarted (sym (c .enum-told .given .1)) ∙ c .before .before .predictive-search .ensures)
@@ -64,13 +64,13 @@ loop-holds c =
     let i = imageAt (c .before .before .before .before .before .before .before .before .before .before .before) in
     let begins = start-rest i (c .before .before .before .before .before .before .before .before .before .before .before .pre .0) (c .before .before .start .given .0 .0) (ap saidStarted (sym (c .before .before .start .given .1)) ∙ c .before .before .before .before .predictive-search .ensures) in
     let first = c .no-lines .ensures in
-    (search needs, search needs, omega (arith, first), subst (λ (n : ℕ). Stands i (c .before .before .start .given .0 .0) (drop n (imageMap i))) (sym first) begins)
+    (refl, refl, omega (arith, first), subst (λ (n : ℕ). Stands i (c .before .before .start .given .0 .0) (drop n (imageMap i))) (sym first) begins)
 
 list-next-requires : tie.Need-list-next-requires Inv-loop μ-loop
 list-next-requires c κs = search needs
 
 enum-known-length : tie.Need-enum-known-length Inv-loop μ-loop
-enum-known-length c = search needs
+enum-known-length c = c .match2 .keys1
 
 -- the line that was given
 line-of : (c : tie.After-known-told2 Inv-loop μ-loop) → Tells (imageAt (c .before .before .before .before .before .before .before .before .before .before .before .before .before .before .before .before .before .before .before .before .before .before)) (c .before .before .before .before .before .before .before .before .before .before .loop .cursor) (c .before .before .before .before .before .before .before .before .before .before .loop .key) (c .before .before .before .before .before .before .before .before .before .before .loop .line) (c .before .before .before .before .before .before .before .before .before .before .loop .progress .lines) (c .before .length .given .0 .0) (c .before .length .given .0 .1 .0)
@@ -92,7 +92,7 @@ say-entry-requires c κs =
     (text, omega (arith, line-of (c .before) .inside, keys-few (imageMap i) (start .pre .0 .catalogue), length-prefixes i (start .pre .0), start .pre .1 .0))
 
 enum-known-further : tie.Need-enum-known-further Inv-loop μ-loop
-enum-known-further c = search needs
+enum-known-further c = c .match3 .keys1
 
 -- a line more is written
 one-more : (c : tie.After-known-told3 Inv-loop μ-loop) → c .before .further .given .0 .0 .lines ≡ c .before .before .before .before .before .before .before .before .before .before .before .before .before .before .before .loop .progress .lines + 1
@@ -105,16 +105,16 @@ loop-again : tie.Need-loop-again Inv-loop μ-loop
 loop-again c =
     let t = line-of (c .before .before .before .before .before) in
     let i = imageAt (c .before .before .before .before .before .before .before .before .before .before .before .before .before .before .before .before .before .before .before .before .before .before .before .before .before .before .before) in
-    (search needs, search needs, omega (arith, one-more c, t .inside), subst (λ (n : ℕ). Stands i (c .before .before .before .before .before .before .length .given .0 .1 .0) (drop n (imageMap i))) (sym (one-more c)) (t .stands))
+    (c .before .before .before .before .before .before .before .before .before .before .before .before .list-next .kept .1 .1 .1 .1 .0 ∙ c .before .before .before .before .before .before .before .before .before .before .before .before .before .before .before .loop .inv .0, c .before .before .before .before .before .before .before .before .before .before .before .before .list-next .kept .1 .1 .1 .1 .1 .0 ∙ c .before .before .before .before .before .before .before .before .before .before .before .before .before .before .before .loop .inv .1, omega (arith, one-more c, t .inside), subst (λ (n : ℕ). Stands i (c .before .before .before .before .before .before .length .given .0 .1 .0) (drop n (imageMap i))) (sym (one-more c)) (t .stands))
 
 enum-known-failure : tie.Need-enum-known-failure Inv-loop μ-loop
-enum-known-failure c = search needs
+enum-known-failure c = c .match3 .keys2
 
 same-length : tie.Need-same-length Inv-loop μ-loop
-same-length c = search needs
+same-length c = c .before .before .before .before .before .before .before .before .before .before .before .before .list-next .kept .1 .1 .1 .1 .0 ∙ c .before .before .before .before .before .before .before .before .before .before .before .before .before .before .before .loop .inv .0
 
 same-length-2 : tie.Need-same-length-2 Inv-loop μ-loop
-same-length-2 c = search needs
+same-length-2 c = c .before .before .before .before .before .before .before .before .before .before .before .before .list-next .kept .1 .1 .1 .1 .1 .0 ∙ c .before .before .before .before .before .before .before .before .before .before .before .before .before .before .before .loop .inv .1
 
 returns-2 : tie.Need-returns-2 Inv-loop μ-loop
 returns-2 c =
@@ -122,13 +122,13 @@ returns-2 c =
     omega (arith, behind, line-of (c .before .before .before .before .before) .inside)
 
 enum-told-2 : tie.Need-enum-told-2 Inv-loop μ-loop
-enum-told-2 c = search needs
+enum-told-2 c = c .match2 .keys2
 
 same-length-3 : tie.Need-same-length-3 Inv-loop μ-loop
-same-length-3 c = search needs
+same-length-3 c = c .before .before .before .before .before .before .list-next .kept .1 .1 .1 .1 .0 ∙ c .before .before .before .before .before .before .before .before .before .loop .inv .0
 
 same-length-4 : tie.Need-same-length-4 Inv-loop μ-loop
-same-length-4 c = search needs
+same-length-4 c = c .before .before .before .before .before .before .list-next .kept .1 .1 .1 .1 .1 .0 ∙ c .before .before .before .before .before .before .before .before .before .loop .inv .1
 
 returns-3 : tie.Need-returns-3 Inv-loop μ-loop
 returns-3 c =
@@ -136,13 +136,13 @@ returns-3 c =
     omega (arith, i .inv .2, end-told (imageAt (c .before .before .before .before .before .before .before .before .before .before .before .before .before .before .before .before .before .before .before .before .before)) (c .before .before .before .before .before .before .before .before .before .before .before .before .before .before .before .before .before .before .before .before .before .pre .0) (i .cursor) (i .key) (i .line) (fits (c .before .before .before .before .before .before .before .before .before .before .before .before .before .before .before .before .before .before .before .before .before) (i .key) (i .line) (i .inv .0) (i .inv .1)) (i .progress .lines) (i .inv .3) (ap saidListed (sym (c .enum-told2 .given .1)) ∙ c .before .before .before .before .before .before .list-next .ensures .0))
 
 enum-told-3 : tie.Need-enum-told-3 Inv-loop μ-loop
-enum-told-3 c = search needs
+enum-told-3 c = c .match2 .keys3
 
 same-length-5 : tie.Need-same-length-5 Inv-loop μ-loop
-same-length-5 c = search needs
+same-length-5 c = c .before .before .before .before .before .before .list-next .kept .1 .1 .1 .1 .0 ∙ c .before .before .before .before .before .before .before .before .before .loop .inv .0
 
 same-length-6 : tie.Need-same-length-6 Inv-loop μ-loop
-same-length-6 c = search needs
+same-length-6 c = c .before .before .before .before .before .before .list-next .kept .1 .1 .1 .1 .1 .0 ∙ c .before .before .before .before .before .before .before .before .before .loop .inv .1
 
 returns-4 : tie.Need-returns-4 Inv-loop μ-loop
 returns-4 c =
@@ -150,13 +150,13 @@ returns-4 c =
     omega (arith, refusal-told (imageAt (c .before .before .before .before .before .before .before .before .before .before .before .before .before .before .before .before .before .before .before .before .before)) (c .before .before .before .before .before .before .before .before .before .before .before .before .before .before .before .before .before .before .before .before .before .pre .0) (i .cursor) (i .key) (i .line) (fits (c .before .before .before .before .before .before .before .before .before .before .before .before .before .before .before .before .before .before .before .before .before) (i .key) (i .line) (i .inv .0) (i .inv .1)) (i .progress .lines) (i .inv .3) _ (ap saidListed (sym (c .enum-told3 .given .1)) ∙ c .before .before .before .before .before .before .list-next .ensures .0))
 
 enum-told-4 : tie.Need-enum-told-4 Inv-loop μ-loop
-enum-told-4 c = search needs
+enum-told-4 c = c .match2 .keys4
 
 same-length-7 : tie.Need-same-length-7 Inv-loop μ-loop
-same-length-7 c = search needs
+same-length-7 c = c .before .before .before .before .before .before .list-next .kept .1 .1 .1 .1 .0 ∙ c .before .before .before .before .before .before .before .before .before .loop .inv .0
 
 same-length-8 : tie.Need-same-length-8 Inv-loop μ-loop
-same-length-8 c = search needs
+same-length-8 c = c .before .before .before .before .before .before .list-next .kept .1 .1 .1 .1 .1 .0 ∙ c .before .before .before .before .before .before .before .before .before .loop .inv .1
 
 returns-5 : tie.Need-returns-5 Inv-loop μ-loop
 returns-5 c =
@@ -164,13 +164,13 @@ returns-5 c =
     omega (arith, refusal-told (imageAt (c .before .before .before .before .before .before .before .before .before .before .before .before .before .before .before .before .before .before .before .before .before)) (c .before .before .before .before .before .before .before .before .before .before .before .before .before .before .before .before .before .before .before .before .before .pre .0) (i .cursor) (i .key) (i .line) (fits (c .before .before .before .before .before .before .before .before .before .before .before .before .before .before .before .before .before .before .before .before .before) (i .key) (i .line) (i .inv .0) (i .inv .1)) (i .progress .lines) (i .inv .3) _ (ap saidListed (sym (c .enum-told4 .given .1)) ∙ c .before .before .before .before .before .before .list-next .ensures .0))
 
 enum-told-5 : tie.Need-enum-told-5 Inv-loop μ-loop
-enum-told-5 c = search needs
+enum-told-5 c = c .match2 .keys5
 
 same-length-9 : tie.Need-same-length-9 Inv-loop μ-loop
-same-length-9 c = search needs
+same-length-9 c = c .before .before .before .before .before .before .list-next .kept .1 .1 .1 .1 .0 ∙ c .before .before .before .before .before .before .before .before .before .loop .inv .0
 
 same-length-10 : tie.Need-same-length-10 Inv-loop μ-loop
-same-length-10 c = search needs
+same-length-10 c = c .before .before .before .before .before .before .list-next .kept .1 .1 .1 .1 .1 .0 ∙ c .before .before .before .before .before .before .before .before .before .loop .inv .1
 
 returns-6 : tie.Need-returns-6 Inv-loop μ-loop
 returns-6 c =

@@ -29,10 +29,10 @@ take-requires : tie.Need-take-requires
 take-requires c κs = search needs
 
 same-length : tie.Need-same-length
-same-length c = search needs
+same-length c = c .before .before .take .kept .0 ∙ c .before .before .before .before .before .before .link .kept .0 ∙ c .before .before .before .before .before .before .before .before .before .before .fill .kept .0
 
 returns : tie.Need-returns
-returns c = let m : c .before .before .before .before .before .before .before .before .before .before .before .before .before .before .last-record .result + 1 ≡ nextRecord (c .before .before .before .before .before .before .before .before .before .before .before .before .before .before .before .before .before .args .pool .now) = omega (arith, c .before .before .before .before .before .before .before .before .before .before .before .before .before .before .last-record .ensures, next-last (c .before .before .before .before .before .before .before .before .before .before .before .before .before .before .before .before .before .args .pool .now)) in (m, (cc) ∙ enter-steps _ _ _ _ _ m (c .before .before .before .before .before .before .before .before .before .before .before .before .slot-of .ensures))
+returns c = let m : c .before .before .before .before .before .before .before .before .before .before .before .before .before .before .last-record .result + 1 ≡ nextRecord (c .before .before .before .before .before .before .before .before .before .before .before .before .before .before .before .before .before .args .pool .now) = omega (arith, c .before .before .before .before .before .before .before .before .before .before .before .before .before .before .last-record .ensures, next-last (c .before .before .before .before .before .before .before .before .before .before .before .before .before .before .before .before .before .args .pool .now)) in (m, (rw (c .before .before .take .ensures, c .before .before .before .before .before .before .link .ensures, c .before .before .before .before .before .before .before .before .before .before .fill .ensures)) ∙ enter-steps _ _ _ _ _ m (c .before .before .before .before .before .before .before .before .before .before .before .before .slot-of .ensures))
 
 pub enter-spec : {M : Type 1} → statement M
 enter-spec =

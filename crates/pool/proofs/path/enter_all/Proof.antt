@@ -34,7 +34,7 @@ loop-less : tie.Need-loop-less Inv-loop μ-loop
 loop-less c = omega arith
 
 loop-again : tie.Need-loop-again Inv-loop μ-loop
-loop-again c = (omega arith, c .before .before .enter .kept .0 ∙ c .before .before .before .before .before .before .loop .inv .1, can-enter-on _ _ _ _ (c .before .before .before .before .before .loop-test .taken) (c .before .before .before .before .before .before .loop .inv .2) _ _ (c .before .before .enter .ensures .1) (c .before .before .enter .ensures .0), c .before .before .before .before .before .before .loop .inv .3 ∙ last-entered-step _ _ _ _ (c .before .before .before .before .before .loop-test .taken) ∙ (cc), c .before .before .before .before .before .before .loop .inv .4 ∙ enter-all-step _ _ _ _ (c .before .before .before .before .before .loop-test .taken) ∙ (cc))
+loop-again c = (omega arith, c .before .before .enter .kept .0 ∙ c .before .before .before .before .before .before .loop .inv .1, can-enter-on _ _ _ _ (c .before .before .before .before .before .loop-test .taken) (c .before .before .before .before .before .before .loop .inv .2) _ _ (c .before .before .enter .ensures .1) (c .before .before .enter .ensures .0), c .before .before .before .before .before .before .loop .inv .3 ∙ last-entered-step _ _ _ _ (c .before .before .before .before .before .loop-test .taken) ∙ rw (c .before .before .enter .ensures .1, c .before .before .enter .ensures .0), c .before .before .before .before .before .before .loop .inv .4 ∙ enter-all-step _ _ _ _ (c .before .before .before .before .before .loop-test .taken) ∙ rw (c .before .before .enter .ensures .1, c .before .before .enter .ensures .0))
 
 same-length : tie.Need-same-length Inv-loop μ-loop
 same-length c = c .before .loop .inv .1

@@ -38,7 +38,7 @@ loop-less : tie.Need-loop-less Inv-loop μ-loop
 loop-less c = omega arith
 
 loop-again : tie.Need-loop-again Inv-loop μ-loop
-loop-again c = (omega arith, c .before .before .before .before .loop .inv .1 ∙ reach-step _ _ _ _ (c .before .before .before .loop-test .taken) (λ e. c .if1 .left (c .before .child-at .ensures ∙ e)) ∙ (cc))
+loop-again c = (omega arith, c .before .before .before .before .loop .inv .1 ∙ reach-step _ _ _ _ (c .before .before .before .loop-test .taken) (λ e. c .if1 .left (c .before .child-at .ensures ∙ e)) ∙ rw (c .before .child-at .ensures))
 
 returns-2 : tie.Need-returns-2 Inv-loop μ-loop
 returns-2 c = sym (c .before .loop .inv .1 ∙ reach-end _ _ _ _ (c .loop-test .left))

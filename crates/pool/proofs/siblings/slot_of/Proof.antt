@@ -21,7 +21,7 @@ first-child-requires : tie.Need-first-child-requires Inv-loop μ-loop
 first-child-requires c κs = search needs
 
 loop-holds : tie.Need-loop-holds Inv-loop μ-loop
-loop-holds c = slot-of-start _ _ _ ∙ (cc)
+loop-holds c = slot-of-start _ _ _ ∙ rw (c .first-child .ensures, c .before .last-record .ensures)
 
 returns : tie.Need-returns Inv-loop μ-loop
 returns c = sym (c .before .before .loop .inv ∙ slot-from-end _ _ _ _ _ (c .if1 .taken))
@@ -42,7 +42,7 @@ loop-less : tie.Need-loop-less Inv-loop μ-loop
 loop-less c = omega arith
 
 loop-again : tie.Need-loop-again Inv-loop μ-loop
-loop-again c = c .before .before .before .before .before .loop .inv ∙ slot-from-step _ _ _ _ _ (c .before .before .before .before .loop-test .taken) (c .before .before .before .if1 .left) (omega (arith, c .before .before .label-of .ensures)) ∙ (cc)
+loop-again c = c .before .before .before .before .before .loop .inv ∙ slot-from-step _ _ _ _ _ (c .before .before .before .before .loop-test .taken) (c .before .before .before .if1 .left) (omega (arith, c .before .before .label-of .ensures)) ∙ rw (c .next-sibling .ensures)
 
 returns-3 : tie.Need-returns-3 Inv-loop μ-loop
 returns-3 c = sym (c .before .loop .inv ∙ slot-from-out _ _ _ _ _ (c .loop-test .left))

@@ -33,7 +33,7 @@ cast-most : tie.Need-cast-most
 cast-most c = search needs
 
 same-length : tie.Need-same-length
-same-length c = search needs
+same-length c = refl
 
 returns-2 : tie.Need-returns-2
 returns-2 c = full-refused _ _ _ (c .before .before .before .before .before .before .before .before .before .before .pre) _ (c .before .before .before .before .before .reach-of .ensures) (c .before .before .before .before .before .before .before .if1 .left) (omega (arith, c .before .before .before .used-count .ensures, c .before .capacity-of .ensures))
@@ -45,10 +45,10 @@ mark-requires : tie.Need-mark-requires
 mark-requires c κs = end-inside _ _ (c .before .before .before .before .before .before .before .before .before .before .before .before .before .before .before .args .value) (c .before .before .before .before .before .before .before .before .before .before .before .before .before .before .before .pre) _ (c .before .before .before .before .before .before .before .before .before .before .reach-of .ensures) (bytes-from (c .before .before .before .before .before .before .before .before .before .before .before .before .before .before .before .args .key .now) (λ i. omega (arith, c .before .before .before .before .before .before .before .before .before .before .before .before .before .shared-slice-known .given i))) (c .before .before .before .before .before .before .before .before .before .before .before .before .if1 .left) (omega (arith, c .before .before .before .before .before .before .before .before .used-count .ensures, c .before .before .before .before .before .before .capacity-of .ensures, c .before .before .before .before .before .if2 .left)) _ _ (c .before .before .before .enter-all .ensures .1) (c .before .before .before .enter-all .ensures .0)
 
 same-length-2 : tie.Need-same-length-2
-same-length-2 c = search needs
+same-length-2 c = c .before .before .mark .kept .0 ∙ c .before .before .before .before .before .before .enter-all .kept .0
 
 returns-3 : tie.Need-returns-3
-returns-3 c = done-accepted _ _ _ (c .before .before .before .before .before .before .before .before .before .before .before .before .before .before .before .before .before .before .pre) _ (c .before .before .before .before .before .before .before .before .before .before .before .before .before .reach-of .ensures) (bytes-from (c .before .before .before .before .before .before .before .before .before .before .before .before .before .before .before .before .before .before .args .key .now) (λ i. omega (arith, c .before .before .before .before .before .before .before .before .before .before .before .before .before .before .before .before .shared-slice-known .given i))) (c .before .before .before .before .before .before .before .before .before .before .before .before .before .before .before .if1 .left) (omega (arith, c .before .before .before .before .before .before .before .before .before .before .before .used-count .ensures, c .before .before .before .before .before .before .before .before .before .capacity-of .ensures, c .before .before .before .before .before .before .before .before .if2 .left)) _ (c .before .before .mark .ensures ∙ (cc (c .before .before .before .before .before .before .enter-all .ensures .0, c .before .before .before .before .before .before .enter-all .ensures .1)))
+returns-3 c = done-accepted _ _ _ (c .before .before .before .before .before .before .before .before .before .before .before .before .before .before .before .before .before .before .pre) _ (c .before .before .before .before .before .before .before .before .before .before .before .before .before .reach-of .ensures) (bytes-from (c .before .before .before .before .before .before .before .before .before .before .before .before .before .before .before .before .before .before .args .key .now) (λ i. omega (arith, c .before .before .before .before .before .before .before .before .before .before .before .before .before .before .before .before .shared-slice-known .given i))) (c .before .before .before .before .before .before .before .before .before .before .before .before .before .before .before .if1 .left) (omega (arith, c .before .before .before .before .before .before .before .before .before .before .before .used-count .ensures, c .before .before .before .before .before .before .before .before .before .capacity-of .ensures, c .before .before .before .before .before .before .before .before .if2 .left)) _ (c .before .before .mark .ensures ∙ rw (c .before .before .before .before .before .before .enter-all .ensures .0, c .before .before .before .before .before .before .enter-all .ensures .1))
 
 pub push-tested-spec : {M : Type 1} → statement M
 push-tested-spec =

@@ -1,4 +1,5 @@
 -- `pool::words::fill` meets its contract: the five stores are the five puts of `filled`. Assumes nothing.
+use mathlib.Core.Path.{_∙_}
 use borrow.Author.Needs.{needs}
 use Rattle.pool.specs.Writing.{filled}
 use Rattle.pool.proofs.words.fill.Statement.{statement}
@@ -20,11 +21,11 @@ set-word-requires-5 : tie.Need-set-word-requires-5
 set-word-requires-5 c κs = search needs
 
 same-length : tie.Need-same-length
-same-length c = search needs
+same-length c = c .before .before .set-word5 .kept .0 ∙ c .before .before .before .before .before .before .set-word4 .kept .0 ∙ c .before .before .before .before .before .before .before .before .before .before .set-word3 .kept .0 ∙ c .before .before .before .before .before .before .before .before .before .before .before .before .before .before .set-word2 .kept .0 ∙ c .before .before .before .before .before .before .before .before .before .before .before .before .before .before .before .before .before .before .set-word .kept .0
 
 returns : tie.Need-returns
 unfolding filled
-returns c = cc
+returns c = rw (c .before .before .set-word5 .ensures, c .before .before .before .before .before .before .set-word4 .ensures, c .before .before .before .before .before .before .before .before .before .before .set-word3 .ensures, c .before .before .before .before .before .before .before .before .before .before .before .before .before .before .set-word2 .ensures, c .before .before .before .before .before .before .before .before .before .before .before .before .before .before .before .before .before .before .set-word .ensures)
 
 pub fill-spec : {M : Type 1} → statement M
 fill-spec =

@@ -12,16 +12,16 @@ set-word-requires-2 : tie.Need-set-word-requires-2
 set-word-requires-2 c κs = search needs
 
 same-length : tie.Need-same-length
-same-length c = search needs
+same-length c = c .before .before .set-word .kept .0
 
 returns : tie.Need-returns
-returns c = (cc) ∙ sym (linked-first _ _ _ _ (c .before .before .before .before .if1 .taken))
+returns c = c .before .before .set-word .ensures ∙ sym (linked-first _ _ _ _ (c .before .before .before .before .if1 .taken))
 
 same-length-2 : tie.Need-same-length-2
-same-length-2 c = search needs
+same-length-2 c = c .before .before .set-word2 .kept .0
 
 returns-2 : tie.Need-returns-2
-returns-2 c = (cc) ∙ sym (linked-next _ _ _ _ (c .before .before .before .before .if1 .left))
+returns-2 c = c .before .before .set-word2 .ensures ∙ sym (linked-next _ _ _ _ (c .before .before .before .before .if1 .left))
 
 pub link-spec : {M : Type 1} → statement M
 link-spec =

@@ -8,11 +8,11 @@ set-word-requires : tie.Need-set-word-requires
 set-word-requires c κs = search needs
 
 same-length : tie.Need-same-length
-same-length c = search needs
+same-length c = c .before .before .set-word .kept .0
 
 returns : tie.Need-returns
 unfolding taken
-returns c = cc
+returns c = c .before .before .set-word .ensures
 
 pub take-spec : {M : Type 1} → statement M
 take-spec = tie.close (tie.spec set-word-requires same-length returns)

@@ -20,7 +20,7 @@ first-child-requires : tie.Need-first-child-requires Inv-loop μ-loop
 first-child-requires c κs = search needs
 
 loop-holds : tie.Need-loop-holds Inv-loop μ-loop
-loop-holds c = cc
+loop-holds c = rw (c .first-child .ensures)
 
 returns : tie.Need-returns Inv-loop μ-loop
 returns c = sym (c .before .before .loop .inv ∙ chain-rest-full _ _ _ _ _ _ (c .if1 .taken) (c .before .loop-test .taken))
@@ -47,7 +47,7 @@ loop-less : tie.Need-loop-less Inv-loop μ-loop
 loop-less c = omega arith
 
 loop-again : tie.Need-loop-again Inv-loop μ-loop
-loop-again c = c .before .before .before .before .before .before .loop .inv ∙ chain-rest-step _ _ _ _ _ _ (c .before .before .before .before .before .loop-test .taken) (c .before .before .before .before .if1 .left) (sym (c .before .before .before .is-child .ensures) ∙ not-false _ (c .before .before .if2 .left)) ∙ (cc)
+loop-again c = c .before .before .before .before .before .before .loop .inv ∙ chain-rest-step _ _ _ _ _ _ (c .before .before .before .before .before .loop-test .taken) (c .before .before .before .before .if1 .left) (sym (c .before .before .before .is-child .ensures) ∙ not-false _ (c .before .before .if2 .left)) ∙ rw (c .next-sibling .ensures, c .before .label-of .ensures)
 
 returns-3 : tie.Need-returns-3 Inv-loop μ-loop
 returns-3 c = sym (c .before .loop .inv ∙ chain-rest-end _ _ _ _ _ _ (c .loop-test .left))

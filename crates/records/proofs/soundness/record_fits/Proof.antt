@@ -24,7 +24,8 @@ words-fit-requires c κs = search needs
 
 returns : tie.Need-returns
 unfolding recordFits
-returns c = cc
+returns c =
+    rw (c .words-fit .ensures, c .before .parent-of .ensures, c .before .before .next-sibling .ensures, c .before .before .before .first-child .ensures, c .before .before .before .before .value-of .ensures, c .before .before .before .before .before .entry-of .ensures)
 
 pub record-fits-spec : {M : Type 1} → statement M
 record-fits-spec =

@@ -58,10 +58,10 @@ step c t e =
     sym (reached-next (imageAt start) (start .pre) (start .args .query .now) _ _ (omega arith) (c .before .before .before .loop .inv .1)) ∙ sym (c .down .ensures) ∙ e
 
 enum-known-t : tie.Need-enum-known-t Inv-loop μ-loop
-enum-known-t c = search needs
+enum-known-t c = c .match .keys1
 
 enum-told : tie.Need-enum-told Inv-loop μ-loop
-enum-told c = search needs
+enum-told c = c .match .keys2
 
 returns : tie.Need-returns Inv-loop μ-loop
 returns c =
@@ -84,7 +84,7 @@ unseen-value-requires : tie.Need-unseen-value-requires Inv-loop μ-loop
 unseen-value-requires c κs = (c .before .before .before .before .before .before .before .before .before .before .before .before .pre, there c .standing .inside)
 
 enum-known-value : tie.Need-enum-known-value Inv-loop μ-loop
-enum-known-value c = search needs
+enum-known-value c = c .match2 .keys1
 
 -- what was found there, of the query
 held : (c : tie.After-unseen-value Inv-loop μ-loop) (t : Held) → c .unseen-value .result ≡ t
@@ -105,7 +105,7 @@ returns-2 c =
     sym (ap saysCommon found ∙ ap (λ (n : ℕ). 0 ∷ n ∷ c .before .value .given .0 .0 ∷ []) (length-take-le (loop .depth + 1) q (omega arith)))
 
 enum-told-2 : tie.Need-enum-told-2 Inv-loop μ-loop
-enum-told-2 c = search needs
+enum-told-2 c = c .match2 .keys2
 
 loop-less : tie.Need-loop-less Inv-loop μ-loop
 loop-less c = omega arith

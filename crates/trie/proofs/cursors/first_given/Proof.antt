@@ -17,10 +17,10 @@ value-at-requires : tie.Need-value-at-requires
 value-at-requires c κs = search needs
 
 enum-known-value : tie.Need-enum-known-value
-enum-known-value c = search needs
+enum-known-value c = c .match .keys1
 
 enum-told : tie.Need-enum-told
-enum-told c = search needs
+enum-told c = c .match .keys2
 
 next-valued-requires : tie.Need-next-valued-requires
 next-valued-requires c κs =

@@ -25,10 +25,10 @@ abbrev hasKeys : tie.Start → Kind → Bool
 hasKeys start kind = nonempty (setOf (imageMap (imageAt start)) kind (pathOf (imageMap (imageAt start)) (start .args .s .node)))
 
 enum-told : tie.Need-enum-told
-enum-told c = search needs
+enum-told c = c .match .keys1
 
 enum-told-2 : tie.Need-enum-told-2
-enum-told-2 c = search needs
+enum-told-2 c = c .match .keys2
 
 kids-requires : tie.Need-kids-requires
 kids-requires c κs = search needs

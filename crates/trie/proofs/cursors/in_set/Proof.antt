@@ -34,10 +34,10 @@ value-at-requires : tie.Need-value-at-requires
 value-at-requires c κs = search needs
 
 enum-told : tie.Need-enum-told
-enum-told c = search needs
+enum-told c = c .match .keys1
 
 enum-told-2 : tie.Need-enum-told-2
-enum-told-2 c = search needs
+enum-told-2 c = c .match .keys2
 
 returns : tie.Need-returns
 returns c =
@@ -47,13 +47,13 @@ returns c =
     (sym (c .before .before .value-at .ensures) ∙ ap heldValue (c .enum-told2 .given .1)))
 
 enum-told-3 : tie.Need-enum-told-3
-enum-told-3 c = search needs
+enum-told-3 c = c .match2 .keys1
 
 is-below-requires : tie.Need-is-below-requires
 is-below-requires c κs = search needs
 
 enum-told-4 : tie.Need-enum-told-4
-enum-told-4 c = search needs
+enum-told-4 c = c .match2 .keys2
 
 returns-2 : tie.Need-returns-2
 returns-2 c =

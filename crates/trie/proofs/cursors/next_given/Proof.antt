@@ -3,7 +3,6 @@
 use mathlib.Core.Path.{sym, ap, _∙_}
 use mathlib.Core.Option.{Option}
 use Prim.Native.Nat.{ℕ}
-use borrow.Author.Needs.{needs}
 use Rattle.keymap.specs.Key.{Key}
 use Rattle.keymap.specs.Map.{Entry, Map}
 use Rattle.keymap.specs.Paths.{IsNode, pathOf}
@@ -46,13 +45,13 @@ returns c =
     (nextIn-later (mapAt start) (start .pre .0 .catalogue) (start .args .top) (top-inside start) (start .args .kind) (start .args .last) under (c .before .if1 .taken)))
 
 enum-told : tie.Need-enum-told
-enum-told c = search needs
+enum-told c = c .match .keys1
 
 first-given-requires : tie.Need-first-given-requires
 first-given-requires c κs = let start = c .before .before .before .before .before .before in (start .pre .0, top-inside start)
 
 enum-told-2 : tie.Need-enum-told-2
-enum-told-2 c = search needs
+enum-told-2 c = c .match .keys2
 
 next-valued-requires-2 : tie.Need-next-valued-requires-2
 next-valued-requires-2 c κs =

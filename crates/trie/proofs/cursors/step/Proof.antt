@@ -51,10 +51,10 @@ whole c =
     (tested c)
 
 enum-known-cursor : tie.Need-enum-known-cursor
-enum-known-cursor c = search needs
+enum-known-cursor c = c .match .keys1
 
 enum-told : tie.Need-enum-told
-enum-told c = search needs
+enum-told c = c .match .keys2
 
 returns-2 : tie.Need-returns-2
 returns-2 c =
@@ -104,7 +104,7 @@ next-given-requires : tie.Need-next-given-requires
 next-given-requires c κs = (whole (c .before .before .before .before .before), belonging c)
 
 enum-known-node : tie.Need-enum-known-node
-enum-known-node c = search needs
+enum-known-node c = c .match2 .keys1
 
 -- the node given is a node, so that its number fits
 inside : (c : tie.After-known-told2) → IsNode (mapAt (c .before .before .before .before .before .before .before .before .before .before .before .before .before .before)) (c .before .node .given .0 .0)
@@ -123,7 +123,7 @@ cast-t17 : tie.Need-cast-t17
 cast-t17 c = omega (arith, fits c)
 
 enum-told-2 : tie.Need-enum-told-2
-enum-told-2 c = search needs
+enum-told-2 c = c .match2 .keys2
 
 finished-requires : tie.Need-finished-requires
 finished-requires c κs = search needs

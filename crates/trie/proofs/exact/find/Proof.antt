@@ -22,10 +22,10 @@ walk-requires : tie.Need-walk-requires
 walk-requires c κs = search needs
 
 enum-known-s : tie.Need-enum-known-s
-enum-known-s c = search needs
+enum-known-s c = c .match .keys1
 
 enum-told : tie.Need-enum-told
-enum-told c = search needs
+enum-told c = c .match .keys2
 
 returns : tie.Need-returns
 returns c =
@@ -42,10 +42,10 @@ value-at-requires : tie.Need-value-at-requires
 value-at-requires c κs = (c .before .before .before .before .before .before .before .before .pre, there c .standing .inside)
 
 enum-known-value : tie.Need-enum-known-value
-enum-known-value c = search needs
+enum-known-value c = c .match2 .keys1
 
 enum-told-2 : tie.Need-enum-told-2
-enum-told-2 c = search needs
+enum-told-2 c = c .match2 .keys2
 
 -- what the node holds is the query's
 held : (c : tie.After-value-at) (t : Held) → c .value-at .result ≡ t

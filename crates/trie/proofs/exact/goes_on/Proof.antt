@@ -19,10 +19,10 @@ walk-requires : tie.Need-walk-requires
 walk-requires c κs = search needs
 
 enum-known-s : tie.Need-enum-known-s
-enum-known-s c = search needs
+enum-known-s c = c .match .keys1
 
 enum-told : tie.Need-enum-told
-enum-told c = search needs
+enum-told c = c .match .keys2
 
 returns : tie.Need-returns
 returns c =

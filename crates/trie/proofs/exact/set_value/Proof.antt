@@ -51,10 +51,10 @@ find-requires : tie.Need-find-requires
 find-requires c κs = whole (c .before)
 
 enum-known-node : tie.Need-enum-known-node
-enum-known-node c = search needs
+enum-known-node c = c .match .keys1
 
 enum-told : tie.Need-enum-told
-enum-told c = search needs
+enum-told c = c .match .keys2
 
 same-length-2 : tie.Need-same-length-2
 same-length-2 c = search needs

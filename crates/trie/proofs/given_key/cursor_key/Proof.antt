@@ -44,10 +44,10 @@ whole c =
     (tested c)
 
 enum-known-cursor : tie.Need-enum-known-cursor
-enum-known-cursor c = search needs
+enum-known-cursor c = c .match .keys1
 
 enum-told : tie.Need-enum-told
-enum-told c = search needs
+enum-told c = c .match .keys2
 
 returns-2 : tie.Need-returns-2
 returns-2 c =

@@ -21,10 +21,10 @@ depth-requires : tie.Need-depth-requires
 depth-requires c κs = search needs
 
 enum-told : tie.Need-enum-told
-enum-told c = search needs
+enum-told c = c .match .keys1
 
 enum-told-2 : tie.Need-enum-told-2
-enum-told-2 c = search needs
+enum-told-2 c = c .match .keys2
 
 depth-requires-2 : tie.Need-depth-requires-2
 depth-requires-2 c κs = search needs

@@ -36,10 +36,10 @@ value-at-requires : tie.Need-value-at-requires
 value-at-requires c κs = search needs
 
 enum-told : tie.Need-enum-told
-enum-told c = search needs
+enum-told c = c .match .keys1
 
 enum-told-2 : tie.Need-enum-told-2
-enum-told-2 c = search needs
+enum-told-2 c = c .match .keys2
 
 -- past the test longer keys begin with the path
 goes-on : (c : tie.Else1)

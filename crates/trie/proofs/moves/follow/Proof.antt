@@ -57,10 +57,10 @@ step c t e =
     sym (follow-next (imageAt start) (start .pre .0) (pathFrom start) (start .args .query .now) _ _ (omega arith) (c .before .before .before .loop .inv .1)) ∙ sym (c .down .ensures) ∙ e
 
 enum-known-t : tie.Need-enum-known-t Inv-loop μ-loop
-enum-known-t c = search needs
+enum-known-t c = c .match .keys1
 
 enum-told : tie.Need-enum-told Inv-loop μ-loop
-enum-told c = search needs
+enum-told c = c .match .keys2
 
 cast-t16 : tie.Need-cast-t16 Inv-loop μ-loop
 cast-t16 c =

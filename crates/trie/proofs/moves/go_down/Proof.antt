@@ -96,13 +96,13 @@ value-at-requires : tie.Need-value-at-requires
 value-at-requires c κs = (c .before .before .before .before .before .before .before .before .before .before .before .before .pre .0, gone (c .before) .standing .inside)
 
 enum-told : tie.Need-enum-told
-enum-told c = search needs
+enum-told c = c .match .keys1
 
 cast-t18 : tie.Need-cast-t18
 cast-t18 c = omega (arith, small (c .before .before .before .before) .0)
 
 enum-told-2 : tie.Need-enum-told-2
-enum-told-2 c = search needs
+enum-told-2 c = c .match .keys2
 
 cast-t20 : tie.Need-cast-t20
 cast-t20 c = omega (arith, small (c .before .before .before .before) .0)

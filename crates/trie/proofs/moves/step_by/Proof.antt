@@ -39,10 +39,10 @@ told c t e =
     ap (λ (s : Stand). reached i (pathOf (imageMap i) (s .node) ++ (start .args .label ∷ []))) (sym (c .before .stand-at .ensures)) ∙ sym (c .down .ensures) ∙ e
 
 enum-known-t : tie.Need-enum-known-t
-enum-known-t c = search needs
+enum-known-t c = c .match .keys1
 
 enum-told : tie.Need-enum-told
-enum-told c = search needs
+enum-told c = c .match .keys2
 
 returns : tie.Need-returns
 returns c =

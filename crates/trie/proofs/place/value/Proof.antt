@@ -56,10 +56,10 @@ value-at-requires : tie.Need-value-at-requires
 value-at-requires c κs = (whole (c .before .before), isNode-iff _ _ .0 (belongs c))
 
 enum-known-found : tie.Need-enum-known-found
-enum-known-found c = search needs
+enum-known-found c = c .match .keys1
 
 enum-told : tie.Need-enum-told
-enum-told c = search needs
+enum-told c = c .match .keys2
 
 returns-3 : tie.Need-returns-3
 returns-3 c =

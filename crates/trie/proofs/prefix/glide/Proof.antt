@@ -3,7 +3,6 @@ use mathlib.Core.Path.{ap, subst}
 use Prim.Native.Nat.{_+_, _-_}
 use native.Mathlib.Omega.{arith}
 use lib.ListN.{length}
-use borrow.Author.Needs.{needs}
 use Rattle.keymap.specs.Image.{Image}
 use Rattle.keymap.specs.Paths.{nodes}
 use Rattle.keymap.specs.Decode.{imageMap}
@@ -30,10 +29,10 @@ onward-requires : tie.Need-onward-requires Inv-loop μ-loop
 onward-requires c κs = (c .before .before .before .before .pre .0, c .loop .inv .standing)
 
 enum-known-t : tie.Need-enum-known-t Inv-loop μ-loop
-enum-known-t c = search needs
+enum-known-t c = c .match .keys1
 
 enum-told : tie.Need-enum-told Inv-loop μ-loop
-enum-told c = search needs
+enum-told c = c .match .keys2
 
 returns : tie.Need-returns Inv-loop μ-loop
 returns c =

@@ -43,10 +43,10 @@ walk-requires : tie.Need-walk-requires
 walk-requires c κs = whole c
 
 enum-known-s : tie.Need-enum-known-s
-enum-known-s c = search needs
+enum-known-s c = c .match .keys1
 
 enum-told : tie.Need-enum-told
-enum-told c = search needs
+enum-told c = c .match .keys2
 
 returns-2 : tie.Need-returns-2
 returns-2 c =

@@ -14,10 +14,10 @@ first-child-requires : tie.Need-first-child-requires
 first-child-requires c κs = search needs
 
 enum-known-child : tie.Need-enum-known-child
-enum-known-child c = search needs
+enum-known-child c = c .match .keys1
 
 enum-told : tie.Need-enum-told
-enum-told c = search needs
+enum-told c = c .match .keys2
 
 climb-requires : tie.Need-climb-requires
 climb-requires c κs =

@@ -3,7 +3,6 @@
 use mathlib.Core.Path.{subst}
 use Prim.Native.Nat.{_≤_, _<_}
 use native.Mathlib.Omega.{arith}
-use borrow.Author.Needs.{needs}
 use Rattle.keymap.specs.Paths.{pathOf}
 use Rattle.keymap.specs.Image.{Image}
 use Rattle.keymap.specs.Decode.{imageMap}
@@ -40,7 +39,7 @@ beside-requires : tie.Need-beside-requires Inv-loop μ-loop
 beside-requires c κs = (c .before .before .before .before .before .before .pre .0, (c .before .before .loop .inv .0, low c))
 
 enum-known-next : tie.Need-enum-known-next Inv-loop μ-loop
-enum-known-next c = search needs
+enum-known-next c = c .match .keys1
 
 returns : tie.Need-returns Inv-loop μ-loop
 returns c =
@@ -54,7 +53,7 @@ returns c =
     )
 
 enum-known-up : tie.Need-enum-known-up Inv-loop μ-loop
-enum-known-up c = search needs
+enum-known-up c = c .match .keys2
 
 -- one turn of the loop: the climb goes on from the parent
 goes-on : (c : tie.After-known-told2 Inv-loop μ-loop)

@@ -47,7 +47,7 @@ zero-is c =
     let spot = c .before .zero-from .ensures in
     let found = c .or-end .ensures in
     let there = zero-perch (imageAt start) (start .pre .0) (start .args .at) (start .pre .1) in
-    cc
+    rw (found, spot, len) there
 
 add-one : tie.Need-add-one
 add-one c =

@@ -42,10 +42,10 @@ advance-requires : tie.Need-advance-requires Inv-loop μ-loop
 advance-requires c κs = (c .before .before .before .before .before .pre .0, (c .loop .inv .0, c .loop .inv .1 .under))
 
 enum-known-next : tie.Need-enum-known-next Inv-loop μ-loop
-enum-known-next c = search needs
+enum-known-next c = c .match .keys1
 
 enum-told : tie.Need-enum-told Inv-loop μ-loop
-enum-told c = search needs
+enum-told c = c .match .keys2
 
 -- what an answer of `advance` says
 landed : (c : tie.After-advance Inv-loop μ-loop) (moved : Moved) → c .advance .result ≡ moved
@@ -65,7 +65,7 @@ value-at-requires : tie.Need-value-at-requires Inv-loop μ-loop
 value-at-requires c κs = (c .before .before .before .before .before .before .before .before .before .pre .0, landed (c .before .before .before) _ (c .before .next .given .1) .0 .inside)
 
 enum-known-value : tie.Need-enum-known-value Inv-loop μ-loop
-enum-known-value c = search needs
+enum-known-value c = c .match2 .keys1
 
 returns-2 : tie.Need-returns-2 Inv-loop μ-loop
 returns-2 c =
@@ -76,7 +76,7 @@ returns-2 c =
     (sym (c .before .before .before .value-at .ensures) ∙ ap heldValue (c .before .value .given .1)))
 
 enum-told-2 : tie.Need-enum-told-2 Inv-loop μ-loop
-enum-told-2 c = search needs
+enum-told-2 c = c .match2 .keys2
 
 -- one turn of the loop
 goes-on : (c : tie.After-enum-told2 Inv-loop μ-loop)

@@ -43,7 +43,7 @@ returns c =
     let there = parent-one i (start .pre .0) at (start .pre .1 .0) (start .pre .1 .1) in
     let spot = c .before .one-back .ensures in
     let found = c .or-end .ensures in
-    let one : c .or-end .result ≡ oneOf i (nodeOf (imageMap i) (upper (pathOf (imageMap i) (at .node)))) = cc in
+    let one : c .or-end .result ≡ oneOf i (nodeOf (imageMap i) (upper (pathOf (imageMap i) (at .node)))) = rw (found, spot) there in
     λ x. record { node = number x; one = one x }
 
 pub parent-of-spec : {M : Type 1} → statement M

@@ -23,7 +23,7 @@ returns c =
     let len = c .before .before .bits-of .ensures in
     let spot = c .before .one-at .ensures in
     let found = c .or-end .ensures in
-    let one : c .or-end .result ≡ oneOf i (a .node) = cc in
+    let one : c .or-end .result ≡ oneOf i (a .node) = rw (found, spot, len) in
     λ x. record { node = a .node; one = one x }
 
 pub perch-at-spec : {M : Type 1} → statement M

@@ -35,10 +35,10 @@ looked : (c : tie.After-sibling-by) (t : Sibling) → c .sibling-by .result ≡ 
 looked c t e =
     let told = c .sibling-by .ensures in
     let run = c .before .kids .ensures in
-    cc
+    rw (← run, ← told) e
 
 enum-known-j : tie.Need-enum-known-j
-enum-known-j c = search needs
+enum-known-j c = c .match .keys1
 
 kid-at-requires : tie.Need-kid-at-requires
 kid-at-requires c κs =
@@ -48,7 +48,7 @@ kid-at-requires c κs =
     (start .pre .0, (start .pre .1, (run, omega (arith, ap (λ (k : Children). k .count) run, found .0))))
 
 enum-told : tie.Need-enum-told
-enum-told c = search needs
+enum-told c = c .match .keys2
 
 returns : tie.Need-returns
 returns c =
@@ -57,7 +57,7 @@ returns c =
     let (among, label) = sibling-there _ _ _ _ _ (looked (c .before .before .before .before) _ (c .before .before .j .given .1)) in
     let stand = c .kid-at .ensures in
     let reach = down-there (imageAt start) (start .pre .0) (start .args .s) (start .pre .1) _ (start .args .label) among label in
-    cc
+    rw (stand, run) (sym reach)
 
 returns-2 : tie.Need-returns-2
 returns-2 c =

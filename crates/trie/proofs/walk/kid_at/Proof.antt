@@ -53,7 +53,7 @@ returns c =
     let found = c .or-end .ensures in
     let given = start .pre .1 .1 .0 in
     let kid = zero-kid i (start .pre .0) (a .s) (start .pre .1 .0) (a .j) among in
-    let zero : c .or-end .result ≡ zeroOf i (a .k .first + a .j) = cc in
+    let zero : c .or-end .result ≡ zeroOf i (a .k .first + a .j) = rw (found, spot, len, given) kid in
     λ x. record { node = a .k .first + a .j; zero = zero x }
 
 pub kid-at-spec : {M : Type 1} → statement M

@@ -41,7 +41,7 @@ next-is c =
     let spot = c .before .before .before .zero-from .ensures in
     let found = c .before .before .or-end .ensures in
     let next = zero-next _ (start .pre .0) _ (start .pre .1) in
-    cc
+    rw (found, spot, len) next
 
 sub-t10 : tie.Need-sub-t10
 sub-t10 c =

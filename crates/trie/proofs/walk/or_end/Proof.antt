@@ -1,15 +1,14 @@
 -- `trie::walk::or_end` meets its contract: the two arms are the definition's. Assumes nothing.
 use mathlib.Core.Path.{sym, ap}
-use borrow.Author.Needs.{needs}
 use Rattle.louds.specs.Nodes.{orEnd}
 use Rattle.trie.proofs.walk.or_end.Statement.{statement}
 use Rattle.trie.proofs.walk.or_end.Tie as tie
 
 enum-known-spot : tie.Need-enum-known-spot
-enum-known-spot c = search needs
+enum-known-spot c = c .match .keys1
 
 enum-told : tie.Need-enum-told
-enum-told c = search needs
+enum-told c = c .match .keys2
 
 returns : tie.Need-returns
 unfolding orEnd

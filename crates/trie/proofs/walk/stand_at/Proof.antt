@@ -23,7 +23,7 @@ returns c =
     let len = c .before .before .bits-of .ensures in
     let spot = c .before .zero-at .ensures in
     let found = c .or-end .ensures in
-    let zero : c .or-end .result ≡ zeroOf i (a .node) = cc in
+    let zero : c .or-end .result ≡ zeroOf i (a .node) = rw (found, spot, len) in
     λ x. record { node = a .node; zero = zero x }
 
 pub stand-at-spec : {M : Type 1} → statement M

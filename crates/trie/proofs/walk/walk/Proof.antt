@@ -50,10 +50,10 @@ step c t e =
     sym (reached-next (imageAt start) (start .pre) (start .args .query .now) _ _ (omega arith) (c .before .before .before .loop .inv .1)) ∙ sym (c .down .ensures) ∙ e
 
 enum-known-t : tie.Need-enum-known-t Inv-loop μ-loop
-enum-known-t c = search needs
+enum-known-t c = c .match .keys1
 
 enum-told : tie.Need-enum-told Inv-loop μ-loop
-enum-told c = search needs
+enum-told c = c .match .keys2
 
 returns : tie.Need-returns Inv-loop μ-loop
 returns c =

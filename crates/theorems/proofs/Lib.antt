@@ -6,4 +6,5 @@ pub mod Listing
 pub mod Demand2
 pub mod NotReset
 pub mod Worked
+pub mod AsksNothing
 pub mod Determined

@@ -1,0 +1,18 @@
+-- No public call asks anything of its caller: what its contract requires holds of any arguments, so that a clause that is added breaks the law. Assumes nothing.
+use contract.Lifetimes.{Lfts}
+use borrow.Fn.World.{ArgsD}
+use Rattle.image.proofs.accept
+use Rattle.image.proofs.accept.Reads as accept-reads
+use Rattle.image.proofs.acceptance.is_image
+use Rattle.image.proofs.acceptance.is_image.Reads as is-image-reads
+use Rattle.image.proofs.build
+use Rattle.image.proofs.build.Reads as build-reads
+
+pub accept-asks-nothing : (κs : Lfts 3) (a : ArgsD accept.signature κs) → accept-reads.Pre κs a
+accept-asks-nothing κs a = tt
+
+pub is-image-asks-nothing : (κs : Lfts 3) (a : ArgsD is_image.signature κs) → is-image-reads.Pre κs a
+is-image-asks-nothing κs a = tt
+
+pub build-asks-nothing : (κs : Lfts 5) (a : ArgsD build.signature κs) → build-reads.Pre κs a
+build-asks-nothing κs a = tt

@@ -132,7 +132,7 @@ module _ (κs : Lfts 0) where
 
   pub root-determined : (a : ArgsD root.signature κs) (r₁ r₂ : ResD root.signature κs) (s₁ s₂ : AtExit (endedOf 0 root-kinds.ps root-kinds.r) κs)
       → root-reads.Post κs a r₁ s₁ → root-reads.Post κs a r₂ s₂ → r₁ ≡ r₂
-  root-determined a r₁ r₂ s₁ s₂ p q = p ∙ sym q
+  root-determined a r₁ r₂ s₁ s₂ p q = p .0 ∙ sym (q .0)
 
 module _ (κs : Lfts 3) where
   pub resume-determined : (a : ArgsD resume.signature κs) (r₁ r₂ : ResD resume.signature κs) (s₁ s₂ : AtExit (endedOf 3 resume-kinds.ps resume-kinds.r) κs)

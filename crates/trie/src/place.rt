@@ -24,9 +24,10 @@ pub struct Place {
 impl Place {
     pub const ROOT: Place = Place { node: 1 };
 
-    // The root place, with a promise: a contract cannot name the constant, so that without this nothing would say which number it has.
+    // The root place, with a promise: a constant has none, so that without this nothing would say which number it has.
     pub fn root() -> Place
-        ensures { λ r. ⌜ r ≡ placeAt 1 ⌝ }
+        ensures answer { λ r. ⌜ r ≡ placeAt 1 ⌝ }
+        ensures constant { λ _. do ⌜ (← ⟦Place::ROOT.node⟧ .entry) ≡ 1 ⌝ }
     {
         Place::ROOT
     }

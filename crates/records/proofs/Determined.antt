@@ -74,4 +74,4 @@ module _ (κs : Lfts 1) (a : ArgsD capacity_of.signature κs) (r₁ r₂ : ResD 
 
 module _ (κs : Lfts 1) (a : ArgsD is_sound.signature κs) (r₁ r₂ : ResD is_sound.signature κs) (s₁ s₂ : AtExit (endedOf 1 is-sound-kinds.ps is-sound-kinds.r) κs) where
   pub is-sound-determined : is-sound-reads.Post κs a r₁ s₁ → is-sound-reads.Post κs a r₂ s₂ → r₁ ≡ r₂
-  is-sound-determined p q = p ∙ sym q
+  is-sound-determined p q = p .0 ∙ sym (q .0)

@@ -13,9 +13,12 @@ use crate::words::parent_of;
 use crate::words::used_count;
 use crate::words::value_of;
 ghost use mathlib.Core.Path.{_≡_};
+ghost use mathlib.Core.Bool.{true};
+ghost use mathlib.Core.Logic.{_↔_};
 ghost use Prim.Native.Nat.{suc, _≤_};
 ghost use Rattle.keymap.specs.Limits.{mostRecords};
 ghost use Rattle.records.specs.Words.{firstChild};
+ghost use Rattle.records.specs.Sound.{Sound};
 ghost use Rattle.records.specs.SoundTest.{wordsFit, recordFits, isChild, chainRest, recordRest, passRest, noneLeft, rootFits, soundTest};
 
 // How many records are left to be met, or that a record or a chain is broken.
@@ -124,24 +127,25 @@ fn all_records(pool: &[u32], n: u32, all: u32) -> bool
 }
 
 // The root's words, where there is room for `most` records.
-fn root_fits(n: u32, most: u32, v: u32, x: u32, q: u32) -> bool
-    ensures { λ r. ⌜ r ≡ rootFits n most v x q ⌝ }
+fn root_fits(n: u32, most: u32, value: u32, sibling: u32, parent: u32) -> bool
+    ensures { λ r. ⌜ r ≡ rootFits n most value sibling parent ⌝ }
 {
     if most < n {
         return false;
     }
-    if v != 0 {
+    if value != 0 {
         return false;
     }
-    if x != 0 {
+    if sibling != 0 {
         return false;
     }
-    q == 0
+    parent == 0
 }
 
-// Whether a slice is a sound pool.
+// Whether a slice is a sound pool: what the test says, and so that it is one.
 pub fn is_sound(pool: &[u32]) -> bool
-    ensures { λ r. ⌜ r ≡ soundTest (now (pool .entry)) ⌝ }
+    ensures answer { λ r. ⌜ r ≡ soundTest (now (pool .entry)) ⌝ }
+    ensures meaning { λ r. ⌜ (r ≡ true) ↔ Sound (now (pool .entry)) ⌝ }
 {
     if pool.len() < RECORD_WORDS {
         return false;

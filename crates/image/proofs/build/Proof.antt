@@ -10,7 +10,6 @@ use Rattle.keymap.specs.Bits.{wordsFor}
 use Rattle.keymap.specs.Image.{bitsFor}
 use Rattle.records.specs.Sound.{Sound}
 use Rattle.records.specs.Words.{usedCount}
-use Rattle.records.proofs.Laws.SoundTest.{test-sound}
 use Rattle.image.specs.declared.answers.Built.{Built}
 use Rattle.image.proofs.Laws.Build.{fit-all, says-small, says-unsound, says-short, says-done, build-refused, build-done, tell-levels, told-labels, told-values}
 use Rattle.image.proofs.build.Statement.{statement}
@@ -23,7 +22,7 @@ is-sound-requires : tie.Need-is-sound-requires
 is-sound-requires c κs = search needs
 
 returns-2 : tie.Need-returns-2
-returns-2 c = build-refused _ _ _ _ _ Built.NotAPool (says-unsound _ _ _ _ _ (c .before .before .if1 .left) (sym (c .before .is-sound .ensures) ∙ not-true _ (c .if2 .taken))) refl
+returns-2 c = build-refused _ _ _ _ _ Built.NotAPool (says-unsound _ _ _ _ _ (c .before .before .if1 .left) (sym (c .before .is-sound .ensures .0) ∙ not-true _ (c .if2 .taken))) refl
 
 used-count-requires : tie.Need-used-count-requires
 used-count-requires c κs = search needs
@@ -32,7 +31,7 @@ buffers-fit-requires : tie.Need-buffers-fit-requires
 buffers-fit-requires c κs = search needs
 
 returns-3 : tie.Need-returns-3
-returns-3 c = build-refused _ _ _ _ _ Built.OutTooSmall (says-short _ _ _ _ _ _ (c .before .before .used-count .ensures) (c .before .before .before .before .before .if1 .left) (sym (c .before .before .before .before .is-sound .ensures) ∙ not-false _ (c .before .before .before .if2 .left)) (sym (c .before .buffers-fit .ensures) ∙ not-true _ (c .if3 .taken))) refl
+returns-3 c = build-refused _ _ _ _ _ Built.OutTooSmall (says-short _ _ _ _ _ _ (c .before .before .used-count .ensures) (c .before .before .before .before .before .if1 .left) (sym (c .before .before .before .before .is-sound .ensures .0) ∙ not-false _ (c .before .before .before .if2 .left)) (sym (c .before .buffers-fit .ensures) ∙ not-true _ (c .if3 .taken))) refl
 
 -- behind the tests: the pool is sound, the count is its own, and every buffer fits
 granted : (c : tie.Else3) →
@@ -41,7 +40,7 @@ granted : (c : tie.Else3) →
     Sound (a .pool .now) × (n ≡ usedCount (a .pool .now)) × (n ≤ length (a .labels .now)) × (n ≤ length (a .values .now)) × (wordsFor (bitsFor n) ≤ length (a .words .now)) × (n ≤ length (a .scratch .now))
 granted c =
     let f = fit-all _ _ _ _ _ (sym (c .before .buffers-fit .ensures) ∙ not-false _ (c .if3 .left)) in
-    (test-sound _ (sym (c .before .before .before .before .is-sound .ensures) ∙ not-false _ (c .before .before .before .if2 .left)), c .before .before .used-count .ensures, f .0, f .1, f .2, f .3)
+    (c .before .before .before .before .is-sound .ensures .1 .0 (not-false _ (c .before .before .before .if2 .left)), c .before .before .used-count .ensures, f .0, f .1, f .2, f .3)
 
 write-levels-requires : tie.Need-write-levels-requires
 write-levels-requires c κs = let g = granted (c .before .before) in record { sound = g .0; count = g .1; words-fit = g .4; queue-fits = g .5 }
@@ -65,7 +64,7 @@ returns-4 : tie.Need-returns-4
 returns-4 c =
     let e = c .before .before .before .before .before .before .before .before .before .before .before .before .before .before .before in
     let g = granted e in
-    let says = says-done _ _ _ _ _ _ (g .1) (e .before .before .before .before .before .if1 .left) (sym (e .before .before .before .before .is-sound .ensures) ∙ not-false _ (e .before .before .before .if2 .left)) (sym (e .before .buffers-fit .ensures) ∙ not-false _ (e .if3 .left)) in
+    let says = says-done _ _ _ _ _ _ (g .1) (e .before .before .before .before .before .if1 .left) (sym (e .before .before .before .before .is-sound .ensures .0) ∙ not-false _ (e .before .before .before .if2 .left)) (sym (e .before .buffers-fit .ensures) ∙ not-false _ (e .if3 .left)) in
     let d = build-done _ _ _ _ _ (Built.Nodes (e .before .before .used-count .result)) says refl in
     let l = c .before .before .before .before .before .before .before .before .before .before .before .before .write-levels .ensures in
     let w = c .before .before .before .before .write-entries .ensures in (

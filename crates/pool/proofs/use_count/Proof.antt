@@ -15,13 +15,13 @@ is-sound-requires : tie.Need-is-sound-requires
 is-sound-requires c κs = search needs
 
 returns-2 : tie.Need-returns-2
-returns-2 c = use-count-unsound _ (c .before .before .if1 .left) (sym (c .before .is-sound .ensures) ∙ not-true _ (c .if2 .taken))
+returns-2 c = use-count-unsound _ (c .before .before .if1 .left) (sym (c .before .is-sound .ensures .0) ∙ not-true _ (c .if2 .taken))
 
 used-count-requires : tie.Need-used-count-requires
 used-count-requires c κs = search needs
 
 returns-3 : tie.Need-returns-3
-returns-3 c = ap (λ (n : ℕ). 0 ∷ n ∷ []) (c .used-count .ensures) ∙ use-count-sound _ (c .before .before .before .if1 .left) (sym (c .before .before .is-sound .ensures) ∙ not-false _ (c .before .if2 .left))
+returns-3 c = ap (λ (n : ℕ). 0 ∷ n ∷ []) (c .used-count .ensures) ∙ use-count-sound _ (c .before .before .before .if1 .left) (sym (c .before .before .is-sound .ensures .0) ∙ not-false _ (c .before .if2 .left))
 
 pub use-count-spec : {M : Type 1} → statement M
 use-count-spec =

@@ -6,6 +6,7 @@
 --     pass-..           the pass's: one record more, broken for good
 --     sound-..          the cases of the whole test
 --     test-sound, sound-test, sound-iff    the test is true exactly of a sound pool
+--     said-means-sound                     and so is an answer that is the test's
 -- Assumes nothing.
 use Prim.Native.Nat.{ℕ, zero, suc, _+_, _-_, _≤_, _<_}
 use mathlib.Core.Path.{_≡_, refl, sym, _∙_, ap, subst}
@@ -370,3 +371,6 @@ sound-test p s =
 
 pub sound-iff : (p : Pool) → (soundTest p ≡ true) ↔ Sound p
 sound-iff p = (test-sound p, sound-test p)
+
+pub said-means-sound : (p : Pool) (said : Bool) → said ≡ soundTest p → (said ≡ true) ↔ Sound p
+said-means-sound p said e = (λ t. test-sound p (sym e ∙ t), λ s. e ∙ sound-test p s)

@@ -1,14 +1,14 @@
--- `records::soundness::is_sound` meets its contract: at each return the tests that led there say which case of `soundTest` holds. Assumes nothing.
+-- `records::soundness::is_sound` meets its contract: at each return the tests that led there say which case of `soundTest` holds, and the test is true exactly of a sound pool. Assumes nothing.
 use mathlib.Core.Path.{sym, _∙_}
 use native.Mathlib.Omega.{arith}
 use borrow.Author.Tests.{not-true, not-false}
 use borrow.Author.Needs.{needs}
-use Rattle.records.proofs.Laws.SoundTest.{sound-short, root-fits-within, sound-root, sound-pass}
+use Rattle.records.proofs.Laws.SoundTest.{sound-short, root-fits-within, sound-root, sound-pass, said-means-sound}
 use Rattle.records.proofs.soundness.is_sound.Statement.{statement}
 use Rattle.records.proofs.soundness.is_sound.Tie as tie
 
 returns : tie.Need-returns
-returns c = sound-short _ (c .if1 .taken)
+returns c = let e = sound-short _ (c .if1 .taken) in (e, said-means-sound _ _ e)
 
 last-record-requires : tie.Need-last-record-requires
 last-record-requires c κs = search needs
@@ -29,7 +29,7 @@ root-fits-requires : tie.Need-root-fits-requires
 root-fits-requires c κs = search needs
 
 returns-2 : tie.Need-returns-2
-returns-2 c = sound-root _ _ _ _ _ _ (c .before .before .before .before .before .before .before .if1 .left) (c .before .before .before .before .before .before .last-record .ensures) (c .before .before .capacity-of .ensures) (c .before .before .before .before .before .value-of .ensures) (c .before .before .before .before .next-sibling .ensures) (c .before .before .before .parent-of .ensures) (sym (c .before .root-fits .ensures) ∙ not-true _ (c .if2 .taken))
+returns-2 c = let e = sound-root _ _ _ _ _ _ (c .before .before .before .before .before .before .before .if1 .left) (c .before .before .before .before .before .before .last-record .ensures) (c .before .before .capacity-of .ensures) (c .before .before .before .before .before .value-of .ensures) (c .before .before .before .before .next-sibling .ensures) (c .before .before .before .parent-of .ensures) (sym (c .before .root-fits .ensures) ∙ not-true _ (c .if2 .taken)) in (e, said-means-sound _ _ e)
 
 used-count-requires : tie.Need-used-count-requires
 used-count-requires c κs = search needs
@@ -38,7 +38,7 @@ all-records-requires : tie.Need-all-records-requires
 all-records-requires c κs = omega (arith, root-fits-within _ _ _ _ _ (sym (c .before .before .root-fits .ensures) ∙ not-false _ (c .before .if2 .left)))
 
 returns-3 : tie.Need-returns-3
-returns-3 c = c .all-records .ensures ∙ sound-pass _ _ _ _ _ _ (c .before .before .before .before .before .before .before .before .before .if1 .left) (c .before .before .before .before .before .before .before .before .last-record .ensures) (c .before .before .before .before .capacity-of .ensures) (c .before .before .before .before .before .before .before .value-of .ensures) (c .before .before .before .before .before .before .next-sibling .ensures) (c .before .before .before .before .before .parent-of .ensures) _ (c .before .used-count .ensures) (sym (c .before .before .before .root-fits .ensures) ∙ not-false _ (c .before .before .if2 .left))
+returns-3 c = let e = c .all-records .ensures ∙ sound-pass _ _ _ _ _ _ (c .before .before .before .before .before .before .before .before .before .if1 .left) (c .before .before .before .before .before .before .before .before .last-record .ensures) (c .before .before .before .before .capacity-of .ensures) (c .before .before .before .before .before .before .before .value-of .ensures) (c .before .before .before .before .before .before .next-sibling .ensures) (c .before .before .before .before .before .parent-of .ensures) _ (c .before .used-count .ensures) (sym (c .before .before .before .root-fits .ensures) ∙ not-false _ (c .before .before .if2 .left)) in (e, said-means-sound _ _ e)
 
 pub is-sound-spec : {M : Type 1} → statement M
 is-sound-spec =

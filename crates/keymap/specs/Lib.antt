@@ -1,4 +1,5 @@
 pub mod Limits
+pub mod Contract
 pub mod Buffers
 pub mod Refusals
 pub mod Members

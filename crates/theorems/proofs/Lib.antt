@@ -8,3 +8,4 @@ pub mod NotReset
 pub mod Worked
 pub mod AsksNothing
 pub mod Determined
+pub mod Ties

@@ -1,0 +1,32 @@
+-- What each public call's contract says, in the definitions that the demands speak of: the answer, and each lent slice that it may write at exit.
+-- Each tie is over the contract's own claim, so a contract that cites another definition breaks it. Assumes nothing.
+use mathlib.Core.Path.{_≡_}
+use denote.Ref.{now}
+use Rattle.keymap.specs.Contract.{Tells}
+use mathlib.Core.Logic.{_↔_}
+use mathlib.Core.List.{[], _∷_}
+use Rattle.image.specs.Accept.{OfMap}
+use Rattle.image.specs.Meaning.{lent}
+use Rattle.image.specs.AcceptTest.{imageTest}
+use Rattle.image.specs.AcceptAnswer.{saidChecked, acceptSays}
+use Rattle.image.specs.Build.{saidBuilt, buildSays, buildLabels, buildValues, buildWords, buildScratch}
+use Rattle.image.proofs.acceptance.is_image.Kinds as is-image-kinds
+use Rattle.image.proofs.acceptance.is_image.Reads as is-image-reads
+use Rattle.image.proofs.accept.Kinds as accept-kinds
+use Rattle.image.proofs.accept.Reads as accept-reads
+use Rattle.image.proofs.build.Kinds as build-kinds
+use Rattle.image.proofs.build.Reads as build-reads
+
+pub is-image-says : Tells 3 is-image-kinds.ps is-image-kinds.r is-image-reads.Post (λ κs a r s. r ≡ imageTest (lent (now (a .0)) (now (a .1 .0)) (now (a .1 .1 .0))))
+is-image-says κs a r s p = p
+
+pub accept-says : Tells 3 accept-kinds.ps accept-kinds.r accept-reads.Post (λ κs a r s. (saidChecked r ≡ acceptSays (lent (now (a .0)) (now (a .1 .0)) (now (a .1 .1 .0)))) × ((saidChecked r ≡ 0 ∷ []) ↔ OfMap (lent (now (a .0)) (now (a .1 .0)) (now (a .1 .1 .0)))))
+accept-says κs a r s p = p
+
+pub build-says : Tells 5 build-kinds.ps build-kinds.r build-reads.Post (λ κs a r s.
+    (saidBuilt r ≡ buildSays (now (a .0)) (now (a .1 .0)) (now (a .1 .1 .0)) (now (a .1 .1 .1 .0)) (now (a .1 .1 .1 .1 .0)))
+    × (now (s .1 .0) ≡ buildLabels (now (a .0)) (now (a .1 .0)) (now (a .1 .1 .0)) (now (a .1 .1 .1 .0)) (now (a .1 .1 .1 .1 .0)))
+    × (now (s .1 .1 .0) ≡ buildValues (now (a .0)) (now (a .1 .0)) (now (a .1 .1 .0)) (now (a .1 .1 .1 .0)) (now (a .1 .1 .1 .1 .0)))
+    × (now (s .1 .1 .1 .0) ≡ buildWords (now (a .0)) (now (a .1 .0)) (now (a .1 .1 .0)) (now (a .1 .1 .1 .0)) (now (a .1 .1 .1 .1 .0)))
+    × (now (s .1 .1 .1 .1 .0) ≡ buildScratch (now (a .0)) (now (a .1 .0)) (now (a .1 .1 .0)) (now (a .1 .1 .1 .0)) (now (a .1 .1 .1 .1 .0))))
+build-says κs a r s p = (p .0, p .1 .0, p .1 .1 .0, p .1 .1 .1 .0, p .1 .1 .1 .1)

@@ -110,7 +110,7 @@ sound-pool p s =
     some-key [] n e = n refl
     some-key (b ∷ k) n e = omega arith
 
-pub every-pool : (p : Pool) → EveryPool p
+pub every-pool : EveryPool
 every-pool p = record {
   too-small = λ h. record {
     reset = sym (reset-small p h .0);

@@ -16,7 +16,7 @@ use Rattle.keymap.specs.Limits.{valueLimit, mostRecords}
 use Rattle.keymap.specs.Members.{In}
 use Rattle.keymap.specs.Key.{Key}
 use Rattle.keymap.specs.Map.{Entry, Map, Catalogue, lookup}
-use Rattle.keymap.specs.Queries.{isPrefixIn}
+use Rattle.keymap.specs.Queries.{isPrefixIn, leastAbove}
 use Rattle.keymap.specs.Prefixes.{prefixes}
 use Rattle.keymap.specs.Bits.{pack}
 use Rattle.keymap.specs.Forest.{treeOf}
@@ -25,8 +25,8 @@ use Rattle.keymap.specs.Image.{Image, image}
 use Rattle.keymap.specs.Paths.{nodes, isNode, pathOf, nodeOf, isPath}
 use Rattle.keymap.specs.Decode.{imageMap}
 use Rattle.keymap.proofs.Laws.Begins.{prefix-refl}
-use Rattle.keymap.proofs.Laws.Map.{lookup-empty}
-use Rattle.keymap.proofs.Laws.Queries.{beginning-iff, longer-iff}
+use Rattle.keymap.proofs.Laws.Map.{lookup-iff, lookup-empty}
+use Rattle.keymap.proofs.Laws.Queries.{beginning-iff, longer-iff, isPrefixIn-iff, commonOfAll-longest, longestPrefixIn-some, longestPrefixIn-none, commonPrefixIn-some, commonPrefixIn-none, leastAbove-some, leastAbove-none}
 use Rattle.keymap.proofs.Laws.LevelOrder.{image-forest}
 use Rattle.keymap.proofs.Laws.Emitted.{emitted-forestBits}
 use Rattle.keymap.proofs.Laws.Image.{length-imageLabels, imageMap-image}
@@ -43,14 +43,14 @@ use Rattle.trie.specs.Answers.{saysValue}
 use Rattle.trie.specs.Exact.{setValues}
 use Rattle.trie.specs.Prefix.{saysWritten, writtenTo, longestSays, longestOut}
 use Rattle.trie.specs.CommonPrefixes.{commonPart}
-use Rattle.trie.specs.Cursors.{setOf, belongs, stepSays}
+use Rattle.trie.specs.Cursors.{setOf, belongs, saysStep, stepSays}
 use Rattle.trie.specs.GivenKey.{givenKey, keySays, keyOut}
 use Rattle.trie.specs.Incremental.{queryIn, querySays, queryMoves, walkable, followIn, followSays, followMoves, commonBelow, gotoIn, gotoSays, gotoMoves}
 use Rattle.trie.specs.Places.{resumeSays, valueSays, prefixLenSays, prefixSays, prefixOut}
 use Rattle.trie.proofs.Laws.Image.{words-are}
 use Rattle.trie.proofs.Laws.Exact.{exactSays-accepted, isPrefixSays-accepted, setValues-absent, setValue-means-insert, setValue-keeps-image}
 use Rattle.trie.proofs.Laws.CommonPrefixes.{commonSays-accepted}
-use Rattle.trie.proofs.Laws.Cursors.{startSays-accepted, setOf-rising, setOf-in, top-node, belongs-at, stepSays-finished}
+use Rattle.trie.proofs.Laws.Cursors.{startSays-accepted, setOf-rising, setOf-in, top-node, belongs-at, nextIn-at, stepSays-finished, stepSays-open}
 use Rattle.theorems.specs.Demand2.{AtPath, NoPlace, listedKey, Searches, setInMap, setInImage, setAll, setAllIn, AllSmall, EveryMap, EveryBuild}
 use Rattle.theorems.proofs.Listing.{listing-is}
 use Rattle.theorems.proofs.Demand3.{every-history}
@@ -88,6 +88,7 @@ module _ (i : Image) (h : MapImage i) where
       query = λ a. (on-node (λ (r : Key). queryIn m (r ++ (a ∷ []))) _ _, on-node (λ (r : Key). cond (isPath m (r ++ (a ∷ []))) (nodeOf m (r ++ (a ∷ []))) (nodeOf m p)) _ _ ∙ node-choice m (isPath m (p ++ (a ∷ []))) (p ++ (a ∷ [])) p);
       query-until = λ q. (on-node (λ (r : Key). followIn m r q) _ _, on-node (λ (r : Key). nodeOf m (r ++ take (walkable m r q) q)) _ _);
       goto = (on-node (λ (r : Key). gotoIn m r) _ _, on-node (λ (r : Key). cond (isPrefixIn r m) (nodeOf m (commonBelow m r)) (nodeOf m p)) _ _ ∙ node-choice m (isPrefixIn p m) (commonBelow m p) p);
+      goto-longest = λ h. let (e, j, b, l) = isPrefixIn-iff p m .0 h in commonOfAll-longest (setOf m Postfix p) e (longer-iff p m e .1 (j, b, l));
     }
 
   no-place : (k : ℕ) → isNode m k ≡ false → NoPlace i k
@@ -130,6 +131,11 @@ module _ (i : Image) (h : MapImage i) where
       let k = given-is kind q e j in
       (says ∙ ap (λ (r : Key). saysWritten r out) k, wrote ∙ ap (λ (r : Key). writtenTo r out) k)
 
+  next : (kind : Kind) (q : Key) (e : Entry) → In e (setOf m kind q) → stepSays i (Open kind (nodeOf m q) (nodeOf m (e .0))) ≡ saysStep m kind (nodeOf m q) (leastAbove (e .0) (setOf m kind q))
+  next kind q e j =
+      stepSays-open i kind (nodeOf m q) (nodeOf m (e .0)) test (belongs-at m (h .catalogue .rising) kind q e j)
+      ∙ ap (saysStep m kind (nodeOf m q)) (nextIn-at m (h .catalogue .rising) kind q e j)
+
   -- ---- all calls
 
   emits : i .words ≡ pack (emitted ((treeOf m) .1))
@@ -142,15 +148,24 @@ module _ (i : Image) (h : MapImage i) where
     level-order = words-are i h;
     emits = emits;
     exact-match = λ q. exactSays-accepted i q test;
+    entries = λ q v. lookup-iff q v m (h .catalogue .rising);
     empty-query = lookup-empty m (h .catalogue .proper);
     is-prefix = λ q. isPrefixSays-accepted i q test;
+    some-longer = λ q. isPrefixIn-iff q m;
     longest-prefix = λ q out. (rw test, rw test);
+    longest = λ q p. longestPrefixIn-some q m p;
+    no-longest = λ q. longestPrefixIn-none q m;
     common-prefix = λ q seen. (commonSays-accepted i q seen test, rw test);
+    shortest = λ q seen e. commonPrefixIn-some q seen m (h .catalogue .rising) e;
+    no-shortest = λ q seen. commonPrefixIn-none q seen m;
     start = λ kind q. startSays-accepted i kind q test;
     listing = λ k kind q. listing-is i h kind q k;
     rises = λ kind q. setOf-rising m (h .catalogue .rising) kind q;
     predictive = λ q e. beginning-iff q m e;
     postfix = λ q e. longer-iff q m e;
+    next = next;
+    least = λ kind q k e. leastAbove-some k (setOf m kind q) (setOf-rising m (h .catalogue .rising) kind q) e;
+    no-least = λ kind q k. leastAbove-none k (setOf m kind q);
     cursor-key = cursor-key;
     key = λ c out. (rw test, rw test);
     step = λ c. rw test;

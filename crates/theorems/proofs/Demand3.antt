@@ -19,6 +19,7 @@ use Rattle.keymap.specs.Prefixes.{prefixes}
 use Rattle.keymap.specs.Refusals.{Refusal, refusalNumber}
 use Rattle.keymap.specs.Image.{image}
 use Rattle.keymap.specs.Paths.{pathOf}
+use Rattle.keymap.proofs.Laws.Prefixes.{prefixes-iff, prefixes-distinct}
 use Rattle.records.specs.Words.{Pool, recordWords, usedCount, InUse, capacity}
 use Rattle.records.specs.Sound.{Sound}
 use Rattle.records.specs.Spelling as spelling
@@ -63,6 +64,9 @@ module _ (p : Pool) (h : recordWords ≤ length p) (cs : List Call) (lent : AllL
   holds : poolMap (poolAfter p cs) ≡ mapAfter p cs
   holds = reset-run-map p h (poolCalls cs) lent
 
+  catalogue : Catalogue (mapAfter p cs)
+  catalogue = reset-run-within p h (poolCalls cs) lent .0
+
   same : capacity (poolAfter p cs) ≡ capacity p
   same =
       let e : capacity (resetPool p) ≡ capacity p = rw (length-reset p) in
@@ -82,7 +86,7 @@ module _ (p : Pool) (h : recordWords ≤ length p) (cs : List Call) (lent : AllL
       → (n ≡ length (prefixes (mapAfter p cs))) × (builtImage n (poolAfter p cs) ls vs ws qs ≡ image (mapAfter p cs))
   builds n ls vs ws qs e =
       subst (λ (m : Map). (n ≡ length (prefixes m)) × (builtImage n (poolAfter p cs) ls vs ws qs ≡ image m)) holds
-      (built-image (poolAfter p cs) sound (subst Catalogue (sym holds) (reset-run-within p h (poolCalls cs) lent .0)) n ls vs ws qs e)
+      (built-image (poolAfter p cs) sound (subst Catalogue (sym holds) catalogue) n ls vs ws qs e)
 
   records : (k : Key) → In k (prefixes (mapAfter p cs)) ↔ ((c : ℕ) × InUse (poolAfter p cs) c × (k ≡ spelling.pathOf (poolAfter p cs) c))
   records k = rw (← holds) (map-prefixes (poolAfter p cs) sound k)
@@ -105,6 +109,9 @@ every-history p h cs lent =
       resets = sym (reset-done p h .0);
       answers = reset-run-says p h cs lent;
       holds = holds p h cs lent;
+      catalogue = catalogue p h cs lent;
+      prefix = prefixes-iff (mapAfter p cs);
+      distinct = prefixes-distinct (mapAfter p cs) (catalogue p h cs lent .rising);
       counts = call-says (poolAfter p cs) (sound p h cs lent) PoolCall.useCount ∙ says p h cs lent PoolCall.useCount;
       records = records p h cs lent;
       apart = apart p h cs lent;

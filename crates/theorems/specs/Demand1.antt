@@ -6,6 +6,7 @@
 --     Unsound          each call on a pool that is not sound
 --     SoundPool        each call on one that is
 --     RefusalKeeps     a call that refuses leaves what it was lent as it was
+--     EveryDamaged, EveryPool    any three slices, any pool
 -- Assumes nothing.
 use Prim.Native.Nat.{ℕ, _+_, _≤_, _<_}
 use mathlib.Core.Path.{_≡_}
@@ -110,8 +111,11 @@ pub record RefusalKeeps : Type 0 where
 abbrev pub EveryDamaged : Type 0
 EveryDamaged = (i : Image) → Lent i → (OfMap i → ⊥) → Damaged i
 
--- any pool: one of three
-pub record EveryPool (p : Pool) : Type 0 where
+-- a pool is one of three
+pub record PoolCases (p : Pool) : Type 0 where
   pub too-small : length p < recordWords → TooSmall p
   pub unsound : recordWords ≤ length p → (Sound p → ⊥) → Unsound p
   pub sound : Sound p → SoundPool p
+
+abbrev pub EveryPool : Type 0
+EveryPool = (p : Pool) → PoolCases p

@@ -9,17 +9,17 @@
 -- Assumes nothing.
 use Prim.Native.Nat.{ℕ, _≤_, _<_}
 use mathlib.Core.Path.{_≡_}
-use mathlib.Core.Logic.{_↔_}
-use mathlib.Core.Bool.{cond, false}
+use mathlib.Core.Logic.{_↔_, _⊎_}
+use mathlib.Core.Bool.{cond, true, false}
 use mathlib.Core.List.{List, [], _∷_, _++_}
-use mathlib.Core.Option.{none}
+use mathlib.Core.Option.{none, some}
 use lib.ListN.{length, take, drop}
 use Rattle.keymap.specs.Limits.{valueLimit, mostRecords}
 use Rattle.keymap.specs.Members.{In}
-use Rattle.keymap.specs.Key.{Key, PrefixOf}
+use Rattle.keymap.specs.Key.{Key, Below, PrefixOf}
 use Rattle.keymap.specs.Refusals.{Refusal, refusalNumber}
 use Rattle.keymap.specs.Map.{Entry, Map, Rising, Catalogue, insert, lookup}
-use Rattle.keymap.specs.Queries.{nonempty, isPrefixIn, longestPrefixIn, commonPrefixIn}
+use Rattle.keymap.specs.Queries.{nonempty, SomeBegins, isPrefixIn, LongestCommon, longestPrefixIn, ShortestWithin, commonPrefixIn, NextAfter, leastAbove}
 use Rattle.keymap.specs.Prefixes.{prefixes}
 use Rattle.keymap.specs.Bits.{pack}
 use Rattle.keymap.specs.Forest.{treeOf}
@@ -38,7 +38,7 @@ use Rattle.trie.specs.Answers.{saysValue, saysFlag, saidCursor}
 use Rattle.trie.specs.Exact.{exactSays, setValues, isPrefixSays}
 use Rattle.trie.specs.Prefix.{saysWritten, writtenTo, saysLongest, writtenLongest, longestSays, longestOut}
 use Rattle.trie.specs.CommonPrefixes.{saysCommon, commonSays, partOf, commonPart}
-use Rattle.trie.specs.Cursors.{given, setOf, belongs, onCursor, startSays, saysEnd, stepIn, stepSays}
+use Rattle.trie.specs.Cursors.{given, setOf, belongs, onCursor, startSays, saysEnd, saysStep, stepIn, stepSays}
 use Rattle.trie.specs.GivenKey.{keyOf, saysKey, writtenKey, keySays, keyOut}
 use Rattle.trie.specs.Incremental.{queryIn, querySays, queryMoves, walkable, followIn, followSays, followMoves, commonBelow, gotoIn, gotoSays, gotoMoves}
 use Rattle.trie.specs.Places.{resumeSays, valueSays, prefixLenSays, prefixSays, prefixOut}
@@ -60,6 +60,7 @@ pub record AtPath (m : Map) (i : Image) (p : Key) : Type 0 where
   pub query-until : (q : Key) → (followSays i (nodeOf m p) q ≡ followIn m p q) × (followMoves i (nodeOf m p) q ≡ nodeOf m (p ++ take (walkable m p q) q))
   -- "K empty: Ok(0). Else the place moves to the longest common prefix q of K, answering Ok of the distance if q is in K, else Err of it"
   pub goto : (gotoSays i (nodeOf m p) ≡ gotoIn m p) × (gotoMoves i (nodeOf m p) ≡ nodeOf m (cond (isPrefixIn p m) (commonBelow m p) p))
+  pub goto-longest : isPrefixIn p m ≡ true → LongestCommon (setOf m Postfix p) (commonBelow m p)
 
 -- a number that is no node's: every call answers BadPlace
 pub record NoPlace (i : Image) (k : ℕ) : Type 0 where
@@ -84,13 +85,21 @@ pub record Searches (m : Map) (i : Image) : Type 0 where
   pub emits : i .words ≡ pack (emitted ((treeOf m) .1))
   -- `exact_match`, and what `set_value` answers: "the value, or no match; the empty query never matches"
   pub exact-match : (q : Key) → exactSays i q ≡ saysValue (lookup q m)
+  pub entries : (q : Key) (v : ℕ) → (lookup q m ≡ some v) ↔ In (q, v) m
   pub empty-query : lookup [] m ≡ none
   -- `is_prefix`: "yes exactly if some key begins with the query and is longer"
   pub is-prefix : (q : Key) → isPrefixSays i q ≡ saysFlag (isPrefixIn q m)
+  pub some-longer : (q : Key) → (isPrefixIn q m ≡ true) ↔ ((e : Entry) × In e m × PrefixOf q (e .0) × (length q < length (e .0)))
   -- `longest_prefix`: "written to a lent buffer and its length answered; no match writes nothing"
   pub longest-prefix : (q : Key) (out : List ℕ) → (longestSays i q out ≡ saysLongest (longestPrefixIn q m) out) × (longestOut i q out ≡ writtenLongest (longestPrefixIn q m) out)
-  -- "the shortest key longer than that and a prefix of the query", and "that leading part of the query itself"
+  -- "the longest common prefix of all keys beginning with the query; no match if there are none or it is empty"
+  pub longest : (q p : Key) → (longestPrefixIn q m ≡ some p) ↔ (SomeBegins q m × LongestCommon (setOf m Predictive q) p × (¬ (p ≡ [])))
+  pub no-longest : (q : Key) → (longestPrefixIn q m ≡ none) ↔ ((¬ SomeBegins q m) ⊎ LongestCommon (setOf m Predictive q) [])
+  -- the answer, and "that leading part of the query itself"
   pub common-prefix : (q : Key) (seen : ℕ) → (commonSays i q seen ≡ saysCommon (commonPrefixIn q seen m)) × (commonPart i q seen ≡ partOf q (commonPrefixIn q seen m))
+  -- "the shortest key longer than that and a prefix of the query"
+  pub shortest : (q : Key) (seen : ℕ) (e : Entry) → (commonPrefixIn q seen m ≡ some e) ↔ ShortestWithin q seen m e
+  pub no-shortest : (q : Key) (seen : ℕ) → (commonPrefixIn q seen m ≡ none) ↔ ((e : Entry) → In e m → PrefixOf (e .0) q → ¬ (seen < length (e .0)))
   -- "no path gives a finished cursor, and so does an empty set"
   pub start : (kind : Kind) (q : Key) → startSays kind i q ≡ 0 ∷ saidCursor (cond (nonempty (setOf m kind q)) (Open kind (nodeOf m q) 0) (Finished kind))
   -- a start and any number of steps give the listing's entries in turn, and then the end each time
@@ -99,7 +108,12 @@ pub record Searches (m : Map) (i : Image) : Type 0 where
   pub rises : (kind : Kind) (q : Key) → Rising (setOf m kind q)
   pub predictive : (q : Key) (e : Entry) → In e (setOf m Predictive q) ↔ (In e m × PrefixOf q (e .0))
   pub postfix : (q : Key) (e : Entry) → In e (setOf m Postfix q) ↔ (In e m × PrefixOf q (e .0) × (length q < length (e .0)))
-  -- the cursor that a step gave an entry with has its key
+  -- "A step answers the least key of its set above the last one given": of the cursor that a step gave an entry with
+  pub next : (kind : Kind) (q : Key) (e : Entry) → In e (setOf m kind q)
+      → stepSays i (Open kind (nodeOf m q) (nodeOf m (e .0))) ≡ saysStep m kind (nodeOf m q) (leastAbove (e .0) (setOf m kind q))
+  pub least : (kind : Kind) (q k : Key) (e : Entry) → (leastAbove k (setOf m kind q) ≡ some e) ↔ NextAfter k (setOf m kind q) e
+  pub no-least : (kind : Kind) (q k : Key) → (leastAbove k (setOf m kind q) ≡ none) ↔ ((e : Entry) → In e (setOf m kind q) → ¬ Below k (e .0))
+  -- that cursor has its key
   pub cursor-key : (kind : Kind) (q : Key) (e : Entry) → In e (setOf m kind q) → (out : List ℕ)
       → (keySays i (Open kind (nodeOf m q) (nodeOf m (e .0))) out ≡ saysWritten (listedKey kind q (e .0)) out) × (keyOut i (Open kind (nodeOf m q) (nodeOf m (e .0))) out ≡ writtenTo (listedKey kind q (e .0)) out)
   -- and any cursor: "a key is asked of a cursor that is fresh or finished" is BadPlace too

@@ -5,9 +5,10 @@ use mathlib.Core.Path.{_≡_}
 use mathlib.Core.Logic.{_↔_}
 use mathlib.Core.List.{List, [], _∷_}
 use lib.ListN.{length, getD}
-use Rattle.keymap.specs.Members.{In}
+use Rattle.keymap.specs.Members.{In, Distinct}
 use Rattle.keymap.specs.Key.{Key}
-use Rattle.keymap.specs.Map.{insert}
+use Rattle.keymap.specs.Map.{Catalogue, insert}
+use Rattle.keymap.specs.Queries.{SomeBegins}
 use Rattle.keymap.specs.Prefixes.{prefixes}
 use Rattle.keymap.specs.Refusals.{Refusal, refusalNumber}
 use Rattle.keymap.specs.Image.{image}
@@ -34,6 +35,11 @@ pub record Demand3 (p : Pool) (cs : List Call) : Type 0 where
   pub answers : runSays (resetPool p) cs ≡ mapRunSays (capacity p) [] cs
   -- the pool holds "the map of the distinct keys accepted since the last reset, each with its last value"
   pub holds : poolMap (poolAfter p cs) ≡ mapAfter p cs
+  -- whose keys are nonempty, of bytes, and rise
+  pub catalogue : Catalogue (mapAfter p cs)
+  -- its distinct nonempty prefixes: what some key begins with, each once
+  pub prefix : (k : Key) → In k (prefixes (mapAfter p cs)) ↔ ((¬ (k ≡ [])) × SomeBegins k (mapAfter p cs))
+  pub distinct : Distinct (prefixes (mapAfter p cs))
   -- "the use count .. is the number of distinct nonempty prefixes" of these keys
   pub counts : useCountSays (poolAfter p cs) ≡ 0 ∷ length (prefixes (mapAfter p cs)) ∷ []
   -- the records in use are those prefixes: each is one's path, and no two records have one path

@@ -5,4 +5,5 @@ pub mod Acceptance
 pub mod Listing
 pub mod Demand2
 pub mod NotReset
+pub mod Lines
 pub mod Worked

@@ -10,3 +10,4 @@ pub mod Worked
 pub mod AsksNothing
 pub mod Determined
 pub mod Ties
+pub mod Uses

@@ -1,0 +1,78 @@
+-- Uses of the statements on lines: "ab", TAB, "7" and lines that break the rule. Assumes nothing.
+use Prim.Native.Nat.{ℕ, _<_}
+use mathlib.Core.Path.{_≡_, refl, sym}
+use mathlib.Core.Bool.{true, true≢false}
+use mathlib.Core.List.{List, [], _∷_}
+use mathlib.Core.Option.{some}
+use native.Mathlib.Omega.{arith}
+use Rattle.keymap.specs.Map.{Entry}
+use Rattle.lines.specs.Bytes.{holds, stretch}
+use Rattle.lines.specs.Decimal.{areDigits, valueAfter, leadingZero, isDecimal, numberIn, decimal, decimalFrom}
+use Rattle.lines.specs.TabLine.{keyPart, numberPart, tabEntry, tabLineSays, tabLineKey}
+use Rattle.lines.specs.Text.{linesOf, entriesOf, nextLineSays}
+use Rattle.lines.specs.Writing.{tabLine, tabText, mapText, Plain, writeLineSays, writeLineOut}
+use Rattle.theorems.proofs.Lines.{every-number, every-line, every-write, every-cut, read-back}
+use Rattle.theorems.proofs.Uses.Values.{ab, b, mapA, four}
+
+plain : Plain (ab, 7)
+unfolding holds
+plain = record { no-tab = refl; no-lf = refl; value = omega arith }
+
+-- "7" is the decimal of 7, and "07" of no number
+pub number : (isDecimal (55 ∷ []) ≡ true) × (48 ∷ 55 ∷ [] ≡ decimal 7 → ⊥)
+unfolding decimal decimalFrom isDecimal leadingZero
+number = (every-number (55 ∷ []) 7 .1 (omega arith, refl) .0, λ e. true≢false (sym (every-number (48 ∷ 55 ∷ []) 7 .1 (omega arith, e) .0)))
+
+pub number-one : (t : List ℕ) → isDecimal t ≡ true → valueAfter 0 t ≡ 7 → t ≡ 55 ∷ []
+unfolding decimal decimalFrom
+number-one t d e = every-number t 7 .0 (d, e) .1
+
+-- "ab", TAB, "7"
+abbrev line : List ℕ
+line = 97 ∷ 98 ∷ 9 ∷ 55 ∷ []
+
+-- "ab", TAB, "07"
+abbrev leading : List ℕ
+leading = 97 ∷ 98 ∷ 9 ∷ 48 ∷ 55 ∷ []
+
+-- a line is read as its key and number, and what is read so is that line
+pub reads : (tabLineSays line ≡ 0 ∷ 2 ∷ 7 ∷ []) × (tabLineKey line ≡ ab)
+unfolding tabLine decimal decimalFrom
+reads = every-line line .reads (ab, 7) .1 (plain, refl)
+
+pub reads-back : (l : List ℕ) → tabLineSays l ≡ 0 ∷ 2 ∷ 7 ∷ [] → tabLineKey l ≡ ab → l ≡ line
+unfolding tabLine decimal decimalFrom
+reads-back l s k = every-line l .reads (ab, 7) .0 (s, k) .1
+
+-- a leading zero: refused 9, and so it is the line of no entry; A's line is one, and so it is not refused
+pub refuses : ((e : Entry) → Plain e → leading ≡ tabLine e → ⊥) × (tabLineSays line ≡ 9 ∷ [] → ⊥)
+unfolding tabLineSays tabEntry keyPart numberPart holds stretch numberIn isDecimal leadingZero areDigits valueAfter tabLine decimal decimalFrom
+refuses = (every-line leading .refuses .0 refl, λ s. every-line line .refuses .0 s (ab, 7) plain refl)
+
+pub refused : (l : List ℕ) → ((e : Entry) → Plain e → l ≡ tabLine e → ⊥) → tabLineSays l ≡ 9 ∷ []
+refused l n = every-line l .refuses .1 n
+
+-- five bytes are written to a longer buffer, and none to one of four
+pub writes : (writeLineSays (ab, 7) (9 ∷ 9 ∷ 9 ∷ 9 ∷ 9 ∷ 9 ∷ []) ≡ 0 ∷ 5 ∷ []) × (writeLineOut (ab, 7) (9 ∷ 9 ∷ 9 ∷ 9 ∷ 9 ∷ 9 ∷ []) ≡ 97 ∷ 98 ∷ 9 ∷ 55 ∷ 10 ∷ 9 ∷ [])
+unfolding tabText tabLine decimal decimalFrom
+writes = every-write (ab, 7) (9 ∷ 9 ∷ 9 ∷ 9 ∷ 9 ∷ 9 ∷ []) .writes (omega arith)
+
+pub no-room : writeLineSays (ab, 7) four ≡ 8 ∷ []
+unfolding tabText tabLine decimal decimalFrom
+no-room = every-write (ab, 7) four .refuses .1 (omega arith)
+
+-- "ab", LF, "b": the first line ends at 2 and the next begins at 3; no line begins at 4
+abbrev text : List ℕ
+text = 97 ∷ 98 ∷ 10 ∷ 98 ∷ []
+
+pub cuts : (end next : ℕ) → nextLineSays text 0 ≡ 0 ∷ end ∷ next ∷ [] → 0 < next
+cuts end next h = every-cut text 0 .cuts end next h .0
+
+pub ends : nextLineSays text 4 ≡ 0 ∷ []
+unfolding linesOf
+ends = every-cut text 4 .ends .1 refl
+
+-- what is written of A's map is read as its entries
+pub reads-map : entriesOf (mapText mapA) ≡ some (ab, 7) ∷ some (b, 3) ∷ []
+unfolding holds
+reads-map = read-back mapA (plain, (record { no-tab = refl; no-lf = refl; value = omega arith }, tt))

@@ -1,7 +1,7 @@
 -- Uses of demand 2: 01's worked lines on A's image, out of `EveryMap` and out of `EveryBuild`. Its nodes are 1 the root, 2 "a", 3 "b", 4 "ab". Assumes nothing.
 use Prim.Native.Nat.{_≤_, _<_}
-use mathlib.Core.Path.{_≡_, refl, subst}
-use mathlib.Core.Bool.{true}
+use mathlib.Core.Path.{_≡_, refl, sym, subst}
+use mathlib.Core.Bool.{true, true≢false}
 use mathlib.Core.List.{List, [], _∷_}
 use mathlib.Core.Option.{none, some}
 use native.Mathlib.Omega.{arith}
@@ -73,6 +73,9 @@ pub some-longer : isPrefixIn a mapA ≡ true
 unfolding beginsWith
 some-longer = onA .some-longer a .1 ((ab, 7), here refl, refl, omega arith)
 
+pub one-longer : (e : Entry) × In e mapA × (beginsWith a (e .0) ≡ true) × (1 < length (e .0))
+one-longer = onA .some-longer a .0 some-longer
+
 -- "`longest_prefix` "": no match; "a": "ab"; "ac": no match"
 pub longest-prefix : longestSays imageA [] four ∷ longestSays imageA a four ∷ longestOut imageA a four ∷ longestSays imageA ac four ∷ longestOut imageA ac four ∷ []
     ≡ (0 ∷ []) ∷ (0 ∷ 2 ∷ []) ∷ (97 ∷ 98 ∷ 9 ∷ 9 ∷ []) ∷ (0 ∷ []) ∷ four ∷ []
@@ -80,9 +83,9 @@ unfolding longestPrefixIn commonOfAll commonPrefix beginning keep beginsWith
 longest-prefix = λ i. onA .longest-prefix [] four .0 i ∷ onA .longest-prefix a four .0 i ∷ onA .longest-prefix a four .1 i ∷ onA .longest-prefix ac four .0 i ∷ onA .longest-prefix ac four .1 i ∷ []
 
 -- which is what the keys beginning with "a" have in common, and no more
-pub longest : LongestCommon (beginning a mapA) ab
+pub longest : LongestCommon (beginning a mapA) ab × (longestPrefixIn a mapA ≡ some ab)
 unfolding longestPrefixIn commonOfAll beginning keep beginsWith
-longest = onA .longest a ab .0 refl .1
+longest = (onA .longest a ab .0 refl .1, onA .longest a ab .1 (onA .longest a ab .0 refl))
 
 pub no-longest : longestPrefixIn ac mapA ≡ none
 unfolding longestPrefixIn commonOfAll beginning keep beginsWith
@@ -93,13 +96,13 @@ pub common-prefix : commonSays imageA abc 0 ∷ commonPart imageA abc 0 ∷ comm
 unfolding commonPrefixIn keep beginsWith
 common-prefix = λ i. onA .common-prefix abc 0 .0 i ∷ onA .common-prefix abc 0 .1 i ∷ onA .common-prefix abc 2 .0 i ∷ onA .common-prefix abc 2 .1 i ∷ []
 
-pub shortest : ShortestWithin abc 0 mapA (ab, 7)
+pub shortest : ShortestWithin abc 0 mapA (ab, 7) × (commonPrefixIn abc 0 mapA ≡ some (ab, 7))
 unfolding commonPrefixIn keep beginsWith
-shortest = onA .shortest abc 0 (ab, 7) .0 refl
+shortest = (onA .shortest abc 0 (ab, 7) .0 refl, onA .shortest abc 0 (ab, 7) .1 (onA .shortest abc 0 (ab, 7) .0 refl))
 
-pub no-shortest : (e : Entry) → In e mapA → beginsWith (e .0) abc ≡ true → ¬ (2 < length (e .0))
+pub no-shortest : ((e : Entry) → In e mapA → beginsWith (e .0) abc ≡ true → ¬ (2 < length (e .0))) × (commonPrefixIn abc 2 mapA ≡ none)
 unfolding commonPrefixIn keep beginsWith
-no-shortest = onA .no-shortest abc 2 .0 refl
+no-shortest = (onA .no-shortest abc 2 .0 refl, onA .no-shortest abc 2 .1 (onA .no-shortest abc 2 .0 refl))
 
 -- a predictive listing of "a" begins at node 2, a postfix listing of "ab" is finished at once
 pub start : startSays Predictive imageA a ∷ startSays Postfix imageA ab ∷ [] ≡ (0 ∷ 0 ∷ 2 ∷ 0 ∷ []) ∷ (0 ∷ 1 ∷ []) ∷ []
@@ -115,10 +118,10 @@ pub rises : Rising mapA
 unfolding beginning keep beginsWith
 rises = onA .rises Predictive []
 
--- "ab" is listed under "a", and of the postfix listing of "ab" it is not
-pub predictive : In (ab, 7) (beginning a mapA)
+-- "ab" is listed under "a", and "b" is not; in the postfix listing of "ab" it is not
+pub predictive : In (ab, 7) (beginning a mapA) × (In (b, 3) (beginning a mapA) → ⊥)
 unfolding beginsWith
-predictive = onA .predictive a (ab, 7) .1 (here refl, refl)
+predictive = (onA .predictive a (ab, 7) .1 (here refl, refl), λ j. true≢false (sym (onA .predictive a (b, 3) .0 j .1)))
 
 pub postfix : In (ab, 7) (longer a mapA) × (In (ab, 7) (longer ab mapA) → ⊥)
 unfolding beginsWith
@@ -129,9 +132,9 @@ pub next : stepSays imageA (Open Predictive 1 4) ∷ stepSays imageA (Open Predi
 unfolding leastAbove beginning keep beginsWith nodeOf indexOf nodes prefixes levels level deepest compareKeys
 next = λ i. onA .next Predictive [] (ab, 7) (here refl) i ∷ onA .next Predictive [] (b, 3) (there (here refl)) i ∷ []
 
-pub least : NextAfter ab mapA (b, 3)
+pub least : NextAfter ab mapA (b, 3) × (leastAbove ab mapA ≡ some (b, 3))
 unfolding leastAbove beginning keep beginsWith compareKeys
-least = onA .least Predictive [] ab (b, 3) .0 refl
+least = (onA .least Predictive [] ab (b, 3) .0 refl, onA .least Predictive [] ab (b, 3) .1 (onA .least Predictive [] ab (b, 3) .0 refl))
 
 pub no-least : leastAbove b mapA ≡ none
 unfolding leastAbove beginning keep beginsWith compareKeys

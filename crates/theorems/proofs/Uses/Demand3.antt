@@ -71,6 +71,10 @@ pub records : (r : ℕ) × InUse (poolAfter poolA callsA) r × (a ≡ spelling.p
 unfolding mapRun poolCalls insert compareKeys prefixes levels level deepest
 records = ofA .records a .0 (prefix .0)
 
+pub recorded : In a (prefixes mapA)
+unfolding mapRun poolCalls insert compareKeys prefixes levels level deepest
+recorded = ofA .records a .1 records
+
 pub apart : (r s : ℕ) → InUse (poolAfter poolA callsA) r → InUse (poolAfter poolA callsA) s → spelling.pathOf (poolAfter poolA callsA) r ≡ a → spelling.pathOf (poolAfter poolA callsA) s ≡ a → r ≡ s
 apart r s u v e f = ofA .apart r s u v (e ∙ sym f)
 

@@ -5,6 +5,7 @@ use mathlib.Core.Bool.{true, true≢false}
 use mathlib.Core.List.{List, [], _∷_}
 use mathlib.Core.Option.{some}
 use native.Mathlib.Omega.{arith}
+use lib.ListN.{length}
 use Rattle.keymap.specs.Map.{Entry}
 use Rattle.lines.specs.Bytes.{holds, stretch}
 use Rattle.lines.specs.Decimal.{areDigits, valueAfter, leadingZero, isDecimal, numberIn, decimal, decimalFrom}
@@ -57,9 +58,9 @@ pub writes : (writeLineSays (ab, 7) (9 ∷ 9 ∷ 9 ∷ 9 ∷ 9 ∷ 9 ∷ []) ≡
 unfolding tabText tabLine decimal decimalFrom
 writes = every-write (ab, 7) (9 ∷ 9 ∷ 9 ∷ 9 ∷ 9 ∷ 9 ∷ []) .writes (omega arith)
 
-pub no-room : writeLineSays (ab, 7) four ≡ 8 ∷ []
+pub no-room : (writeLineSays (ab, 7) four ≡ 8 ∷ []) × ((out : List ℕ) → writeLineSays (ab, 7) out ≡ 8 ∷ [] → length out < 5)
 unfolding tabText tabLine decimal decimalFrom
-no-room = every-write (ab, 7) four .refuses .1 (omega arith)
+no-room = (every-write (ab, 7) four .refuses .1 (omega arith), λ out s. every-write (ab, 7) out .refuses .0 s)
 
 -- "ab", LF, "b": the first line ends at 2 and the next begins at 3; no line begins at 4
 abbrev text : List ℕ
@@ -68,9 +69,9 @@ text = 97 ∷ 98 ∷ 10 ∷ 98 ∷ []
 pub cuts : (end next : ℕ) → nextLineSays text 0 ≡ 0 ∷ end ∷ next ∷ [] → 0 < next
 cuts end next h = every-cut text 0 .cuts end next h .0
 
-pub ends : nextLineSays text 4 ≡ 0 ∷ []
+pub ends : (nextLineSays text 4 ≡ 0 ∷ []) × (nextLineSays text 3 ≡ 0 ∷ [] → linesOf (98 ∷ []) ≡ [])
 unfolding linesOf
-ends = every-cut text 4 .ends .1 refl
+ends = (every-cut text 4 .ends .1 refl, every-cut text 3 .ends .0)
 
 -- what is written of A's map is read as its entries
 pub reads-map : entriesOf (mapText mapA) ≡ some (ab, 7) ∷ some (b, 3) ∷ []

@@ -3,7 +3,7 @@ use Prim.Native.Nat.{ℕ}
 use mathlib.Core.Path.{_≡_, refl, _∙_}
 use mathlib.Core.List.{[], _∷_}
 use native.Mathlib.Omega.{arith}
-use Rattle.keymap.specs.Members.{here}
+use Rattle.keymap.specs.Members.{In, here}
 use Rattle.keymap.specs.Key.{compareKeys}
 use Rattle.keymap.specs.Map.{insert, lookup}
 use Rattle.keymap.specs.Prefixes.{level, deepest, levels, prefixes}
@@ -26,9 +26,9 @@ ofA : NotReset wordsA
 ofA = every-sound wordsA wordsA-sound wordsA-bounded
 
 -- its marked records spell "ab" with 7
-pub spells : Holds wordsA ab 7
+pub spells : Holds wordsA ab 7 × In (ab, 7) (poolMap wordsA)
 unfolding poolMap poolForest forestBelow siblingsFrom listTree listForest word lastRecord
-spells = ofA .spells ab 7 .0 (here refl)
+spells = (ofA .spells ab 7 .0 (here refl), ofA .spells ab 7 .1 (ofA .spells ab 7 .0 (here refl)))
 
 -- given again after a reset, both keys are accepted, and leave the map
 pub accepts : pools.runSays (resetPool wordsA) (pushesOf mapA) ≡ (0 ∷ []) ∷ (0 ∷ []) ∷ []

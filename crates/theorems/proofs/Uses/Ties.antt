@@ -11,14 +11,17 @@ use Rattle.pool.specs.Push.{pushSays, pushPool}
 use Rattle.pool.proofs.push.Kinds as push-kinds
 use Rattle.pool.proofs.push.Reads as push-reads
 use Rattle.image.specs.Meaning.{lent}
+use Rattle.trie.specs.declared.place.Place.{Place}
+use Rattle.trie.specs.declared.place.Followed.{Followed}
 use Rattle.trie.specs.Answers.{saidLooked}
 use Rattle.trie.specs.Exact.{exactSays}
+use Rattle.trie.specs.Incremental.{placeAt, saidFollowed, FollowPromise}
 use Rattle.trie.proofs.exact_match.Kinds as exact-match-kinds
 use Rattle.trie.proofs.exact_match.Reads as exact-match-reads
-use Rattle.theorems.proofs.Ties.{push-says, exact-match-says}
-use Rattle.theorems.proofs.Uses.Values.{ab, c, imageA, wordsA}
+use Rattle.theorems.proofs.Ties.{push-says, exact-match-says, query-until-says}
+use Rattle.theorems.proofs.Uses.Values.{ab, ax, c, imageA, wordsA}
 use Rattle.theorems.proofs.Uses.Demand1.{refused-push, push-keeps}
-use Rattle.theorems.proofs.Uses.Demand2.{onA}
+use Rattle.theorems.proofs.Uses.Demand2.{onA, query-until}
 
 -- "A, capacity 3, push "c": NoRoom", and the pool is as it was
 pub push-c : Tells 2 push-kinds.ps push-kinds.r push-reads.Post (λ κs a r s. now (a .0) ≡ wordsA → now (a .1 .0) ≡ c → (saidPushed r ≡ 4 ∷ []) × (now (s .0) ≡ wordsA))
@@ -31,3 +34,7 @@ pub exact-match-ab : Tells 4 exact-match-kinds.ps exact-match-kinds.r exact-matc
     lent (now (a .0)) (now (a .1 .0)) (now (a .1 .1 .0)) ≡ imageA → now (a .1 .1 .1 .0) ≡ ab → saidLooked r ≡ 0 ∷ 7 ∷ [])
 unfolding lookup compareKeys
 exact-match-ab κs a r s p image query = exact-match-says κs a r s p ∙ (λ i. exactSays (image i) (query i)) ∙ onA .exact-match ab
+
+-- "A, `query_until` "ax": Err(1), place at "a"", which is node 2: of any answer and place that the promise allows
+pub query-until-ax : (r : Followed) (after : Place) → FollowPromise imageA ax (placeAt 1) r after → (saidFollowed r ≡ 0 ∷ 1 ∷ 1 ∷ []) × (after .node ≡ 2)
+query-until-ax r after p = let (answer, moved) = query-until-says imageA ax (placeAt 1) r after p in (answer ∙ query-until .0, moved ∙ query-until .1)

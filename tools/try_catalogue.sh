@@ -1,5 +1,5 @@
 #!/usr/bin/env bash
-# Runs the program `catalogue` on files made here, at the limits of the scope document (module 8), and compares what it writes.
+# Runs the program `catalogue_program` on files made here, at the limits of the scope document (module 8), and compares what it writes.
 #
 #     tools/try_catalogue.sh
 #
@@ -7,7 +7,7 @@
 set -eu
 . "$(dirname "$0")/program.sh"
 
-build catalogue
+build catalogue_program
 work=$(mktemp -d)
 trap 'rm -rf "$work"' EXIT
 passed=0
@@ -21,7 +21,7 @@ expect() {
 
 # compare NAME: the same with what stands in $work/wanted
 compare() {
-    if run catalogue "$work/in" > "$work/wrote" && cmp -s "$work/wrote" "$work/wanted"; then
+    if run catalogue_program "$work/in" > "$work/wrote" && cmp -s "$work/wrote" "$work/wanted"; then
         echo "ok      $1"
         passed=$((passed + 1))
     else
@@ -52,7 +52,7 @@ bytes() {
     yes "$(printf 'a\t1')" | head -c "$1"
 }
 
-on_text 'the sample' 'b\t3\nab\t7\n' 'ab\t7\nb\t3\n'
+on_text 'the file of 01' 'b\t3\nab\t7\n' 'ab\t7\nb\t3\n'
 on_text 'the last LF absent' 'b\t3\nab\t7' 'ab\t7\nb\t3\n'
 on_text 'an empty file' '' ''
 on_text 'the last value stays' 'a\t1\nb\t2\na\t0\n' 'a\t0\nb\t2\n'
@@ -110,7 +110,7 @@ expect 'a directory' 'no file\n'
 # a write that fails ends the program, and it ends well
 fresh
 printf 'b\t3\nab\t7\n' > "$work/in/catalogue.tsv"
-if run catalogue "$work/in" > /dev/full; then
+if run catalogue_program "$work/in" > /dev/full; then
     echo "ok      a full output"
     passed=$((passed + 1))
 else

@@ -1,6 +1,6 @@
-pub mod Reading
-pub mod Filling
+pub mod Limits
 pub mod TextAnswers
-pub mod Listing
+pub mod Filling
 pub mod Program
-pub mod RefusedText
+pub mod Reading
+pub mod Rooms

@@ -1,52 +1,44 @@
--- The program as a whole (01, module 8): its room, and what it writes of a text that it accepts.
+-- What the program writes (01, module 8), by what was read: the bytes of the file, or none where it could not be read.
 --
---     programCapacity   "a pool of capacity 2,048"; `poolLength`, `wordsLength`, `lineLength` follow from it
---     Writes            the image is built, and the lines listed are the text of the map of the entries
+--     programText    "A file that can't be read gives only `no file` and LF"; more than 65,536 bytes only "`too long` and LF"; "The first refusal stops it, and
+--                    then it writes only `refused`, space, number, ` line `, line number from 1, LF"; else "the listing in the same form, each line with LF"
+--     answerText     the same of a text that was read, by what it is answered
 -- Assumes nothing.
-use Prim.Native.Nat.{ℕ, _+_, _*_, _/_}
-use mathlib.Core.Path.{_≡_}
-use mathlib.Core.List.{List, [], _∷_}
-use lib.ListN.{length, take}
-use Rattle.keymap.specs.Map.{Map, insertAll}
-use Rattle.keymap.specs.Prefixes.{prefixes}
-use Rattle.keymap.specs.Bits.{wordsFor}
-use Rattle.keymap.specs.Image.{bitsFor}
-use Rattle.records.specs.Words.{Pool, recordWords}
-use Rattle.image.specs.Build.{buildSays, buildLabels, buildValues, buildWords}
-use Rattle.image.specs.Meaning.{lent}
-use Rattle.lines.specs.Text.{entryLines}
+use Prim.Native.Nat.{ℕ}
+use mathlib.Core.List.{List, [], _∷_, _++_}
+use mathlib.Core.Option.{Option, none, some}
+use Rattle.keymap.specs.Map.{Map}
+use Rattle.lines.specs.Bytes.{lineFeed}
+use Rattle.lines.specs.Decimal.{decimal}
 use Rattle.lines.specs.Writing.{mapText}
-use Rattle.trie.specs.declared.Cursor.{Cursor}
-use Rattle.catalogue.specs.declared.listing.Listed.{Listed}
-use Rattle.catalogue.specs.Filling.{filePool, entriesIn}
-use Rattle.catalogue.specs.Listing.{Lists, written}
+use Rattle.catalogue.specs.Limits.{programCapacity}
+use Rattle.catalogue.specs.TextAnswers.{textSays, textMap}
 
-abbrev pub programCapacity : ℕ
-programCapacity = 2048
+-- `no file` and LF
+abbrev pub noFileText : List ℕ
+noFileText = 110 ∷ 111 ∷ 32 ∷ 102 ∷ 105 ∷ 108 ∷ 101 ∷ lineFeed ∷ []
 
--- five words for each record, the root's among them
-abbrev pub poolLength : ℕ
-poolLength = recordWords * (programCapacity + 1)
+-- `too long` and LF
+abbrev pub tooLongText : List ℕ
+tooLongText = 116 ∷ 111 ∷ 111 ∷ 32 ∷ 108 ∷ 111 ∷ 110 ∷ 103 ∷ lineFeed ∷ []
 
--- enough for an image of as many nodes
-abbrev pub wordsLength : ℕ
-wordsLength = wordsFor (bitsFor programCapacity)
+-- `refused` and a space
+abbrev pub refusedWord : List ℕ
+refusedWord = 114 ∷ 101 ∷ 102 ∷ 117 ∷ 115 ∷ 101 ∷ 100 ∷ 32 ∷ []
 
--- the longest key, TAB, ten digits and LF
-abbrev pub lineLength : ℕ
-lineLength = programCapacity + 12
+-- `line` between spaces
+abbrev pub lineWord : List ℕ
+lineWord = 32 ∷ 108 ∷ 105 ∷ 110 ∷ 101 ∷ 32 ∷ []
 
--- each key with its last value
-abbrev pub textMap : List ℕ → Map
-textMap text = insertAll (entriesIn (entryLines text)) []
+unfoldable pub refusedText : (number line : ℕ) → List ℕ
+refusedText number line = refusedWord ++ (decimal number ++ (lineWord ++ (decimal line ++ (lineFeed ∷ []))))
 
--- p is the pool before the reset; the others are the buffers before the build
-pub record Writes (p : Pool) (text labels values words scratch : List ℕ) : Type 0 where
-  pub built : buildSays (filePool p text) labels values words scratch ≡ 0 ∷ length (prefixes (textMap text)) ∷ []
-  pub listed : (cursor : ℕ → Cursor) (key line : ℕ → List ℕ) (answer : ℕ → Listed) → length (key 0) ≡ programCapacity → length (line 0) ≡ lineLength
-      → Lists
-      (lent (take (length (prefixes (textMap text))) (buildLabels (filePool p text) labels values words scratch))
-      (take (length (prefixes (textMap text))) (buildValues (filePool p text) labels values words scratch))
-      (take ((2 * length (prefixes (textMap text)) + 66) / 64) (buildWords (filePool p text) labels values words scratch)))
-      cursor key line answer
-      → (written answer line (length (textMap text)) 0 ≡ mapText (textMap text)) × (answer (length (textMap text)) ≡ Listed.End)
+-- by what `textSays` says: nothing of a text that is too long, the number and the line of a refusal, 0 where every line is pushed
+abbrev pub answerText : Map → List ℕ → List ℕ
+answerText m [] = tooLongText
+answerText m (n ∷ []) = mapText m
+answerText m (n ∷ l ∷ ns) = refusedText n l
+
+unfoldable pub programText : Option (List ℕ) → List ℕ
+programText none = noFileText
+programText (some text) = answerText (textMap text) (textSays programCapacity text)

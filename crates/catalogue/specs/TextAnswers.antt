@@ -5,20 +5,23 @@
 --     mapLineSays, mapLineAfter   one line, by its entry: the refusal's number, or 0, and the map with the entry inserted
 --     textFrom                    lines in turn, the first of them with a given number, after lines that left a given map
 --     textSays                    a text of any length, its lines numbered from 1, in an empty pool
+--     entriesIn                   the entries of lines, and `AllEntries`: each has one, and of a nonempty key
+--     textMap                     the map of a text's entries
 -- Assumes nothing.
 use Prim.Native.Nat.{ℕ, suc}
+use mathlib.Core.Path.{_≡_}
 use mathlib.Core.Bool.{cond}
 use mathlib.Core.List.{List, [], _∷_, _++_}
 use mathlib.Core.Option.{Option, none, some}
 use lib.ListN.{length}
 use lib.Dec.{ltb}
-use Rattle.keymap.specs.Map.{Entry, Map, insert}
+use Rattle.keymap.specs.Map.{Entry, Map, insert, insertAll}
 use Rattle.keymap.specs.Refusals.{Refusal, refusalNumber}
 use Rattle.pool.specs.Answers.{accepted}
 use Rattle.pool.specs.History.{Call, mapSays}
 use Rattle.lines.specs.TabLine.{tabEntry}
 use Rattle.lines.specs.Text.{entryLines}
-use Rattle.catalogue.specs.Filling.{fileLimit}
+use Rattle.catalogue.specs.Limits.{fileLimit}
 
 -- where there is room for `most` records
 abbrev pub mapLineSays : ℕ → Map → Option Entry → List ℕ
@@ -36,3 +39,23 @@ textFrom most n m (l ∷ ls) =
 
 unfoldable pub textSays : ℕ → List ℕ → List ℕ
 textSays most text = cond (ltb fileLimit (length text)) [] (textFrom most 1 [] (entryLines text))
+
+-- ---- the map of a text
+
+-- a line that breaks the rule has none
+abbrev pub withEntry : Option Entry → List Entry → List Entry
+withEntry none es = es
+withEntry (some e) es = e ∷ es
+
+unfoldable pub entriesIn : List (List ℕ) → List Entry
+entriesIn [] = []
+entriesIn (l ∷ ls) = withEntry (tabEntry l) (entriesIn ls)
+
+-- every line is an entry, and of a key that is not empty
+abbrev pub AllEntries : List (List ℕ) → Type 0
+AllEntries [] = Unit {0}
+AllEntries (l ∷ ls) = ((e : Entry) × (tabEntry l ≡ some e) × (¬ (e .0 ≡ []))) × AllEntries ls
+
+-- each key with its last value
+abbrev pub textMap : List ℕ → Map
+textMap text = insertAll (entriesIn (entryLines text)) []

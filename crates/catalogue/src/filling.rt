@@ -6,49 +6,32 @@ ghost use lib.ListN.{length, drop};
 ghost use Rattle.pool.specs.Answers.{saidPushed};
 ghost use Rattle.lines.specs.TabLine.{tabEntry};
 ghost use Rattle.lines.specs.Text.{linesOf, entryLines};
-ghost use Rattle.catalogue.specs.Filling.{saidFilled, lineSays, linePool, fillFrom, leftFrom, fillSays, fillPool, fileSays, filePool, SoundIf};
-ghost use Rattle.catalogue.specs.TextAnswers.{textSays};
-ghost use Rattle.catalogue.specs.Program.{programCapacity, poolLength};
+ghost use Rattle.catalogue.specs.Filling.{saidFilled, lineSays, linePool, fillFrom, leftFrom, fillPool, HeldIf};
+ghost use Rattle.catalogue.specs.TextAnswers.{textFrom};
+ghost use Rattle.catalogue.specs.Limits.{programCapacity};
+use crate::POOL_WORDS;
 use lines::answers::Cut;
 use lines::answers::Parsed;
 use pool::answers::Pushed;
-
-// The longest text that is taken.
-pub const FILE_LIMIT: usize = 65536;
 
 pub enum Filled {
     // Every line is pushed.
     Done,
     // The refusal's number, and the line's from 1. The lines before it are pushed.
     Refused { number: u32, line: usize },
-    // The text is longer than the limit; no line was looked at.
-    TooLong,
 }
 
-// Resets the pool and pushes the lines of a text that is not too long.
-pub fn fill(text: &[u8], pool: &mut [u32]) -> Filled
-    requires { ⌜ length (now pool) ≡ poolLength ⌝ }
-    ensures answer { λ r. ⌜ saidFilled r ≡ fileSays (now (pool .entry)) (now (text .entry)) ⌝ }
-    ensures left { λ _. ⌜ now (pool .exit) ≡ filePool (now (pool .entry)) (now (text .entry)) ⌝ }
-    ensures sound { λ r. ⌜ SoundIf r (now (pool .exit)) ⌝ }
-    ensures text { λ r. ⌜ saidFilled r ≡ textSays programCapacity (now (text .entry)) ⌝ }
+// Resets the pool and pushes the lines of a text in turn, up to the first that is refused.
+pub fn fill(text: &[u8], pool: &mut [u32; POOL_WORDS]) -> Filled
+    ensures answer { λ r. ⌜ saidFilled r ≡ textFrom programCapacity 1 [] (entryLines (now (text .entry))) ⌝ }
+    ensures left { λ _. ⌜ now (pool .exit) ≡ fillPool (now (pool .entry)) (now (text .entry)) ⌝ }
+    ensures held { λ r. ⌜ HeldIf r (now (pool .exit)) (now (text .entry)) ⌝ }
 {
-    if FILE_LIMIT < text.len() {
-        return Filled::TooLong;
-    }
     pool::reset(pool);
-    push_lines(text, pool)
-}
-
-// Pushes the lines of a text in turn, up to the first that is refused.
-pub fn push_lines(text: &[u8], pool: &mut [u32]) -> Filled
-    ensures answer { λ r. ⌜ saidFilled r ≡ fillSays (now (pool .entry)) (entryLines (now (text .entry))) ⌝ }
-    ensures left { λ _. ⌜ now (pool .exit) ≡ fillPool (now (pool .entry)) (entryLines (now (text .entry))) ⌝ }
-{
     push_from(text, 0, 1, pool)
 }
 
-// The same from a position on; the line that begins there has the number `first`. Each line before it has a byte, so that the number fits.
+// Pushes the lines from a position on; the line that begins there has the number `first`. Each line before it has a byte, so that the number fits.
 fn push_from(text: &[u8], from: usize, first: usize, pool: &mut [u32]) -> Filled
     requires { ⌜ first ≤ from + 1 ⌝ }
     ensures answer { λ r. ⌜ saidFilled r ≡ fillFrom first (now (pool .entry)) (linesOf (drop from (now (text .entry)))) ⌝ }

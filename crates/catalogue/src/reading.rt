@@ -1,45 +1,75 @@
-// A file's bytes. A read that fails is told from the file's end, which `io::read_full` does not do.
-ghost use Prim.Native.Nat.{_<_};
-ghost use lib.ListN.{length};
-ghost use Rattle.catalogue.specs.Filling.{fileLimit};
-ghost use Rattle.catalogue.specs.Reading.{Within};
+// A file read piece by piece into a room of one byte more than the longest that is taken. What each read tells is decided here:
+// a negative count is a read that failed, 0 is the file's end, and a room that is full is that of a file which is too long.
+ghost use mathlib.Core.Path.{_≡_};
+ghost use Rattle.catalogue.specs.Reading.{nothingRead, nextAt, takeRead};
+use crate::FILE_ROOM;
 
-pub enum Reading {
-    // So many bytes stand at the start of the room. Where they fill it, the file may be longer.
-    Bytes(usize),
-    // The file cannot be opened, or a read of it failed.
-    NoFile,
+// How far a file is read. Nothing outside this module can make one but by the calls below.
+pub struct Reading {
+    // So many bytes of the file stand at the start of the room.
+    pub(crate) done: usize,
+    // No further read is wanted.
+    pub(crate) over: bool,
+    // And the file was read to its end, or until the room was full.
+    pub(crate) whole: bool,
 }
 
-// The room is longer than the longest text that is taken, so that a longer file is seen to be one.
-pub fn read_file(name: &[u8], room: &mut [u8]) -> Reading
-    requires { ⌜ fileLimit < length (now room) ⌝ }
-    ensures { λ r. ⌜ Within (now (room .exit)) r ⌝ }
+// Nothing is read yet.
+pub fn begin() -> Reading
+    ensures { λ r. ⌜ r ≡ nothingRead ⌝ }
 {
-    let fd = os::open_read(name);
-    if fd < 0 {
-        return Reading::NoFile;
+    Reading {
+        done: 0,
+        over: false,
+        whole: false,
     }
-    let read = read_all(fd, room);
-    libc::close(fd);
-    read
 }
 
-// Reads until the room is full, the file ends or a read fails.
-fn read_all(fd: i32, room: &mut [u8]) -> Reading
-    ensures { λ r. ⌜ Within (now (room .exit)) r ⌝ }
+// Where in the room the next read goes: at its end where none is wanted.
+pub fn next_at(reading: Reading) -> usize
+    ensures { λ r. ⌜ r ≡ nextAt reading ⌝ }
 {
-    let mut done = 0;
-    while done < room.len() {
-        let got = libc::read(fd, &mut room[done..]);
-        if got < 0 {
-            return Reading::NoFile;
-        }
-        let more = io::count(got, &room[done..]);
-        if more == 0 {
-            return Reading::Bytes(done);
-        }
-        done += more;
+    if reading.over {
+        return FILE_ROOM;
     }
-    Reading::Bytes(done)
+    reading.done
+}
+
+// After a read that answered `got`, as `libc::read` does.
+pub fn take_read(reading: Reading, got: isize) -> Reading
+    ensures { λ r. ⌜ r ≡ takeRead reading got ⌝ }
+{
+    if reading.over {
+        return reading;
+    }
+    let done = reading.done;
+    if got < 0 {
+        return Reading {
+            done,
+            over: true,
+            whole: false, // it could not be read
+        };
+    }
+    let more = got as usize;
+    if more == 0 {
+        return Reading {
+            done,
+            over: true,
+            whole: true,
+        };
+    }
+    if more < FILE_ROOM {
+        if done < FILE_ROOM - more {
+            return Reading {
+                done: done + more,
+                over: false,
+                whole: false,
+            };
+        }
+    }
+    Reading {
+        done: FILE_ROOM,
+        over: true,
+        whole: true,
+    }
 }

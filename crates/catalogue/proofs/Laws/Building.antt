@@ -36,7 +36,7 @@ use Rattle.image.specs.Meaning.{lent, MapImage}
 use Rattle.keymap.proofs.Laws.Buffers.{length-over, take-over}
 use Rattle.image.proofs.Laws.Build.{fit-all, says-sound}
 use Rattle.image.proofs.Laws.PoolImage.{build-means-image}
-use Rattle.catalogue.specs.Program.{programCapacity, poolLength, wordsLength}
+use Rattle.catalogue.specs.Limits.{programCapacity}
 
 pub word-bounded : (p : Pool) → ((j : ℕ) → getD p j 0 < valueLimit) → Bounded p
 unfolding word
@@ -112,11 +112,12 @@ built-image p ls vs ws qs n held h =
     }
 
 -- a sound pool of the program's length is built in buffers of its lengths
-pub build-accepts : (p : Pool) → Sound p → length p ≡ poolLength → (ls vs ws qs : List ℕ) → length ls ≡ programCapacity → length vs ≡ programCapacity
-    → length ws ≡ wordsLength → length qs ≡ programCapacity → buildSays p ls vs ws qs ≡ 0 ∷ usedCount p ∷ []
+pub build-accepts : (p : Pool) → Sound p → length p ≡ 10245 → (ls vs ws qs : List ℕ) → length ls ≡ programCapacity → length vs ≡ programCapacity
+    → length ws ≡ 65 → length qs ≡ programCapacity → accepted (buildSays p ls vs ws qs) ≡ true
 unfolding fitSays buffersFit
 build-accepts p s size ls vs ws qs l v w q =
     let n : ℕ = usedCount p in
     let few : n ≤ programCapacity = omega (arith, used-within p s, size) in
-    says-sound p ls vs ws qs s
-    ∙ rw (le-leb n (length ls) (omega (arith, few, l)), le-leb n (length vs) (omega (arith, few, v)), le-leb ((2 * n + 3 + 63) / 64) (length ws) (omega (arith, few, w)), le-leb n (length qs) (omega (arith, few, q)))
+    let fit : buffersFit n (length ls) (length vs) (length ws) (length qs) ≡ true =
+    rw (le-leb n (length ls) (omega (arith, few, l)), le-leb n (length vs) (omega (arith, few, v)), le-leb ((2 * n + 3 + 63) / 64) (length ws) (omega (arith, few, w)), le-leb n (length qs) (omega (arith, few, q))) in
+    ap accepted (says-sound p ls vs ws qs s ∙ ap (λ (t : Bool). cond t (0 ∷ n ∷ []) (refusalNumber Refusal.OutTooSmall ∷ [])) fit)

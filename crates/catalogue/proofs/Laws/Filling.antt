@@ -2,10 +2,8 @@
 --
 --     entry-said, entry-none           the entry of a line, by what `tab_line` answered
 --     fill-end, fill-goes, fill-stops  the equations of `fillFrom` and `leftFrom`, by what one line says
---     fill-whole                       the lines of a whole text, and `file-long`, `file-short`: a text by its length
---     fill-means                       lines accepted whole leave a sound pool of the same length that holds the inserts of their entries
---     reset-fills                      a text accepted whole after a reset leaves the map of its entries, and its image is the image of that map
---     filled-sound                     and the pool is sound, by the answer
+--     fill-means                       lines accepted whole leave a sound pool that holds the inserts of their entries
+--     filled-holds                     a text accepted whole after a reset leaves a sound pool that holds the map of its entries
 --     lines-bytes, key-bytes           the lines of bytes are of bytes, and so are their keys; `bytes-of`: each element below the limit
 -- Assumes nothing.
 use mathlib.Core.Path.{_≡_, refl, sym, ap, _∙_}
@@ -16,13 +14,12 @@ use mathlib.Core.List.{List, [], _∷_, _++_}
 use mathlib.Core.Option.{Option, none, some}
 use lib.ListN.{length, getD, take, drop}
 use lib.Dec.{eqb}
-use borrow.Author.Tests.{lt-ltb, le-ltb, eq-eqb, ne-eqb, eqb-false}
+use borrow.Author.Tests.{eq-eqb, ne-eqb, eqb-false}
 use Rattle.keymap.specs.Limits.{byteLimit}
 use Rattle.keymap.specs.Key.{Key, Bytes}
 use Rattle.keymap.specs.Map.{Entry, Map, insert, insertAll}
 use Rattle.keymap.specs.Refusals.{Refusal, refusalNumber}
 use Rattle.keymap.proofs.Laws.Begins.{bytes-prefix, prefix-leading}
-use Rattle.keymap.specs.Image.{image}
 use Rattle.records.specs.Words.{Pool, recordWords}
 use Rattle.records.specs.Sound.{Sound}
 use Rattle.records.specs.Meaning.{poolMap}
@@ -30,16 +27,15 @@ use Rattle.pool.specs.Answers.{accepted}
 use Rattle.pool.specs.Reset.{resetPool}
 use Rattle.pool.specs.Push.{pushSays, pushPool}
 use Rattle.pool.proofs.Laws.Reset.{reset-sound}
-use Rattle.pool.proofs.Laws.Push.{push-keeps, length-push}
+use Rattle.pool.proofs.Laws.Push.{push-keeps}
 use Rattle.pool.proofs.Laws.Meaning.{reset-means-empty, push-means-insert}
-use Rattle.image.specs.LevelOrder.{poolImage}
-use Rattle.image.proofs.Laws.PoolImage.{image-pool}
 use Rattle.lines.specs.Bytes.{tab, lineFeed, stretch}
 use Rattle.lines.specs.TabLine.{keyPart, tabEntry, entrySays, entryKey, tabLineSays, tabLineKey}
 use Rattle.lines.specs.Text.{inFirst, linesOf, entryLines}
 use Rattle.lines.proofs.Laws.TabLine.{tabEntry-some}
 use Rattle.catalogue.specs.declared.filling.Filled as answers
-use Rattle.catalogue.specs.Filling.{fileLimit, saidFilled, SoundIf, lineSays, linePool, fillFrom, leftFrom, fillSays, fillPool, fileSays, filePool, entriesIn}
+use Rattle.catalogue.specs.TextAnswers.{entriesIn, textMap}
+use Rattle.catalogue.specs.Filling.{saidFilled, lineSays, linePool, fillFrom, leftFrom, fillPool, HeldIf}
 
 -- ---- one line
 
@@ -82,21 +78,6 @@ module _ (n : ℕ) (p : Pool) (l : List ℕ) (ls : List (List ℕ)) (a : ℕ) (s
       let f : accepted (lineSays p (tabEntry l)) ≡ false = ap accepted (sym said) ∙ ne-eqb a 0 d in
       (rw f (ap (λ (s : List ℕ). s ++ (n ∷ [])) said), rw f (line-refused p (tabEntry l) f))
 
--- the lines of a whole text
-pub fill-whole : (p : Pool) (text : List ℕ)
-    → (fillFrom 1 p (linesOf (drop 0 text)) ≡ fillSays p (entryLines text)) × (leftFrom p (linesOf (drop 0 text)) ≡ fillPool p (entryLines text))
-unfolding fillSays fillPool entryLines
-fill-whole p text = (refl, refl)
-
-pub file-long : (p : Pool) (text : List ℕ) → fileLimit < length text → ([] ≡ fileSays p text) × (p ≡ filePool p text)
-unfolding fileSays filePool
-file-long p text h = (rw (lt-ltb _ _ h), rw (lt-ltb _ _ h))
-
-pub file-short : (p : Pool) (text : List ℕ) → length text ≤ fileLimit
-    → (fillSays (resetPool p) (entryLines text) ≡ fileSays p text) × (fillPool (resetPool p) (entryLines text) ≡ filePool p text)
-unfolding fileSays filePool
-file-short p text h = (rw (le-ltb _ _ h), rw (le-ltb _ _ h))
-
 -- ---- bytes
 
 pub bytes-of : (t : List ℕ) → ((j : ℕ) → getD t j 0 < byteLimit) → Bytes t
@@ -132,7 +113,6 @@ key-bytes l e h b = rw (tabEntry-some l e h .key) (bytes-prefix (take (stretch t
 
 pub record Filled (p : Pool) (ls : List (List ℕ)) : Type 0 where
   pub sound : Sound (leftFrom p ls)
-  pub size : length (leftFrom p ls) ≡ length p
   pub holds : poolMap (leftFrom p ls) ≡ insertAll (entriesIn ls) (poolMap p)
 
 -- a refusal is told from "all are pushed": its number is not 0, and lines are numbered from 1
@@ -142,7 +122,7 @@ told (a ∷ s) n f h = let z : a ≡ 0 = cc in eqb-false a 0 f z
 
 pub fill-means : (ls : List (List ℕ)) (n : ℕ) (p : Pool) → Sound p → AllBytes ls → fillFrom (suc n) p ls ≡ 0 ∷ [] → Filled p ls
 unfolding fillFrom leftFrom entriesIn insertAll
-fill-means [] n p s b h = record { sound = s; size = refl; holds = refl }
+fill-means [] n p s b h = record { sound = s; holds = refl }
 fill-means (l ∷ ls) n p s b h = go (tabEntry l) refl (λ q t. fill-means ls (suc n) q t (b .1))
   where
     inserted : (e : Entry) → tabEntry l ≡ some e → accepted (pushSays p (e .0)) ≡ true → Filled (pushPool p (e .0) (e .1)) ls → Filled p (l ∷ ls)
@@ -150,7 +130,6 @@ fill-means (l ∷ ls) n p s b h = go (tabEntry l) refl (λ q t. fill-means ls (s
         let kb : Bytes (e .0) = key-bytes l e f (b .0) in
         record {
           sound = rw (f, a) (r .sound);
-          size = rw (f, a) (r .size ∙ length-push p (e .0) (e .1) kb);
           holds = rw (f, a) (r .holds ∙ ap (insertAll (entriesIn ls)) (push-means-insert p (e .0) (e .1) kb a));
         }
 
@@ -163,23 +142,11 @@ fill-means (l ∷ ls) n p s b h = go (tabEntry l) refl (λ q t. fill-means ls (s
     go none f ih = absurd (let k : 9 ∷ suc n ∷ [] ≡ 0 ∷ [] = rw f at h in let z : _≡_ {A = ℕ} 9 0 = cc in omega arith)
     go (some e) f ih = pushed e f ih (accepted (pushSays p (e .0))) refl
 
--- the pool holds a map, and its image is that map's
-pub record Holding (p : Pool) (m : Map) : Type 0 where
-  pub sound : Sound p
-  pub holds : poolMap p ≡ m
-  pub shows : poolImage p ≡ image m
-
 -- a text accepted whole after a reset
-pub reset-fills : (p : Pool) → recordWords ≤ length p → (text : List ℕ) → Bytes text → fillSays (resetPool p) (entryLines text) ≡ 0 ∷ []
-    → Holding (fillPool (resetPool p) (entryLines text)) (insertAll (entriesIn (entryLines text)) [])
-unfolding fillSays fillPool
-reset-fills p h text b said =
-    let f = fill-means (entryLines text) 0 (resetPool p) (reset-sound p h) (lines-bytes text b) said in
-    let m = f .holds ∙ ap (insertAll (entriesIn (entryLines text))) (reset-means-empty p h) in
-    record { sound = f .sound; holds = m; shows = image-pool (leftFrom (resetPool p) (entryLines text)) (f .sound) ∙ ap image m }
-
-pub filled-sound : (p : Pool) → recordWords ≤ length p → (text : List ℕ) → Bytes text → (r : answers.Filled) → saidFilled r ≡ fillSays (resetPool p) (entryLines text)
-    → SoundIf r (fillPool (resetPool p) (entryLines text))
-filled-sound p h text b answers.Filled.Done said = reset-fills p h text b (sym said) .sound
-filled-sound p h text b (answers.Filled.Refused number line) said = tt
-filled-sound p h text b answers.Filled.TooLong said = tt
+pub filled-holds : (p : Pool) → recordWords ≤ length p → (text : List ℕ) → Bytes text → (r : answers.Filled) → saidFilled r ≡ fillFrom 1 (resetPool p) (entryLines text)
+    → HeldIf r (fillPool p text) text
+unfolding fillPool
+filled-holds p h text b answers.Filled.Done said =
+    let f = fill-means (entryLines text) 0 (resetPool p) (reset-sound p h) (lines-bytes text b) (sym said) in
+    (f .sound, f .holds ∙ ap (insertAll (entriesIn (entryLines text))) (reset-means-empty p h))
+filled-holds p h text b (answers.Filled.Refused number line) said = tt

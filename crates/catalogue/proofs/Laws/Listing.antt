@@ -1,47 +1,113 @@
--- Laws of `list_next`: a step, the key and the line say together what it says.
+-- A listing put into a buffer, entry by entry: what stands before the place to go on from, and the text of the rest, are together the text of the map.
 --
---     list-refused, list-strange, list-ends, list-gives    `listSays`, `listKey` and `listLine` by cases
---     list-said, list-ended      the same by a step's answer that gave nothing
---     given-next                 what is said of the entry that a step gave
+--     start-told                  no start on a map's image is refused
+--     Listing, listing-starts     before the first step
+--     Turn, listing-turn          a step that gave an entry: its key and what stands behind the key have room, and with them put the listing stands behind it
+--     listing-ends                a step that gave none: the text of the map is put
 -- Assumes nothing.
-use mathlib.Core.Path.{_≡_, refl, sym, ap, _∙_}
-use Prim.Native.Nat.{ℕ}
+use mathlib.Core.Path.{_≡_, refl, sym, ap, subst, _∙_}
+use mathlib.Core.Logic.{inl}
+use Prim.Native.Nat.{ℕ, suc, _+_, _-_, _≤_, _<_}
 use native.Mathlib.Omega.{arith}
-use mathlib.Core.Bool.{Bool, true, false}
-use mathlib.Core.List.{List, [], _∷_}
+use mathlib.Core.Bool.{Bool, true, false, cond}
+use mathlib.Core.List.{List, [], _∷_, _++_, head?, append-assoc, append-nil}
 use mathlib.Core.Option.{Option, none, some}
-use Rattle.keymap.specs.Members.{In, here}
-use Rattle.keymap.specs.Key.{Key}
+use lib.ListN.{length, take, drop, length-append, length-drop, drop-of-length-le}
+use lib.Seq.{take-all}
+use lib.Dec.{leb}
+use borrow.Author.Tests.{le-leb}
+use Rattle.keymap.specs.Members.{In}
+use Rattle.keymap.specs.Key.{Key, beginsWith}
 use Rattle.keymap.specs.Map.{Entry, Map, Rising}
+use Rattle.keymap.specs.Queries.{nonempty, beginning}
 use Rattle.keymap.specs.Image.{Image}
 use Rattle.keymap.specs.Decode.{imageMap}
-use Rattle.keymap.specs.Paths.{pathOf, nodeOf}
-use Rattle.keymap.specs.Refusals.{Refusal, refusalNumber}
+use Rattle.keymap.specs.Paths.{nodes, pathOf, nodeOf}
+use Rattle.keymap.specs.Buffers.{over}
+use Rattle.keymap.proofs.Laws.Begins.{prefix-empty}
+use Rattle.keymap.proofs.Laws.Queries.{keep-all}
+use Rattle.keymap.proofs.Laws.Paths.{pathOf-nodeOf, nodeOf-node, nodes-iff}
+use Rattle.keymap.proofs.Laws.Buffers.{length-over}
 use Rattle.image.specs.AcceptTest.{imageTest}
 use Rattle.image.specs.Meaning.{MapImage}
+use Rattle.image.proofs.Laws.Meaning.{mapImage-tested}
+use Rattle.lines.specs.Bytes.{tab, lineFeed}
+use Rattle.lines.specs.Decimal.{decimal}
+use Rattle.lines.specs.Writing.{tabLine, tabText, mapText}
+use Rattle.trie.specs.declared.Kind.{Kind}
 use Rattle.trie.specs.declared.Kind.the-variants as kinds
 use Rattle.trie.specs.declared.Cursor.{Cursor}
 use Rattle.trie.specs.declared.Cursor.the-variants.{Open, Finished}
+use Rattle.trie.specs.declared.Started.the-variants.{At, NotAnImage}
 use Rattle.trie.specs.declared.Stepped.{Stepped}
 use Rattle.trie.specs.declared.Stepped.the-variants as stepped
-use Rattle.trie.specs.declared.Spelled.the-variants as spelled
-use Rattle.trie.specs.Answers.{saidStepped}
-use Rattle.trie.specs.Prefix.{writtenTo}
-use Rattle.trie.specs.Cursors.{setOf, belongs, nextIn, saysStep, stepIn, stepSays}
-use Rattle.trie.specs.GivenKey.{keyOut}
-use Rattle.trie.proofs.Laws.Answers.{saidStepped-one}
-use Rattle.catalogue.specs.Listing.{nextEntry, nextCursor, shown, saysLine, lineWith, listSays, listed, listKey, listLine, givenSays, givenLine, written}
-use Rattle.catalogue.proofs.Laws.GivenLine.{given-key}
-use Rattle.catalogue.proofs.Laws.Next.{next-belongs, next-key, shown-value}
+use Rattle.trie.specs.Answers.{saidCursor, saidStarted, saidStepped}
+use Rattle.trie.specs.Cursors.{setOf, belongs, startSays, nextIn, saysStep, stepIn, stepSays}
+use Rattle.trie.specs.GivenKey.{keyOf, keySays, keyOut}
+use Rattle.trie.proofs.Laws.Answers.{saidCursor-one, saidStepped-one}
+use Rattle.trie.proofs.Laws.Cursors.{belongs-fresh, startSays-accepted}
+use Rattle.catalogue.proofs.Laws.Putting.{Put, put-start, put-behind}
+use Rattle.catalogue.proofs.Laws.Next.{nextEntry, nextCursor, kindOf, restOf, next-head, next-member, next-belongs, next-key, rest-step}
+
+-- ---- where a cursor stands
+
+-- a cursor of the listing, and the entries that are still to be given
+record Stands (i : Image) (c : Cursor) (rest : Map) : Type 0 where
+  belonging : belongs (imageMap i) c ≡ true
+  predictive : kindOf c ≡ kinds.Predictive
+  rest-is : restOf (imageMap i) c ≡ rest
+
+next-kind : (m : Map) (c : Cursor) (e : Entry) → kindOf (nextCursor m c e) ≡ kindOf c
+next-kind m (Open kind top last) e = refl
+next-kind m (Finished kind) e = refl
+
+-- all keys begin with the empty query
+beginning-all : (m : Map) → beginning [] m ≡ m
+unfolding beginning
+beginning-all m = keep-all (λ (e : Entry). beginsWith [] (e .0)) m (λ e i. prefix-empty (e .0))
+
+finished-belongs : (m : Map) (kind : Kind) → belongs m (Finished kind) ≡ true
+unfolding belongs
+finished-belongs m kind = refl
+
+start-rest : (i : Image) → MapImage i → (c : Cursor) → saidStarted (At c) ≡ startSays kinds.Predictive i [] → Stands i c (imageMap i)
+start-rest i image c h = go m refl
+  where
+    m : Map
+    m = imageMap i
+
+    all : setOf m kinds.Predictive [] ≡ m
+    all = beginning-all m
+
+    first : Map → Cursor
+    first n = cond (nonempty n) (Open kinds.Predictive (nodeOf m []) 0) (Finished kinds.Predictive)
+
+    said : (n : Map) → m ≡ n → 0 ∷ saidCursor c ≡ 0 ∷ saidCursor (first n)
+    said n e =
+        h ∙ startSays-accepted i kinds.Predictive [] (mapImage-tested i image) ∙ ap (λ (x : Map). 0 ∷ saidCursor (first x)) (all ∙ e)
+
+    at : (d : Cursor) → 0 ∷ saidCursor c ≡ 0 ∷ saidCursor d → c ≡ d
+    at d q = let cursors : saidCursor c ≡ saidCursor d = cc in saidCursor-one c d cursors
+
+    root : In [] (nodes m)
+    root = nodes-iff m [] .1 (inl refl)
+
+    go : (n : Map) → m ≡ n → Stands i c (imageMap i)
+    go [] e =
+        let is : c ≡ Finished kinds.Predictive = at (Finished kinds.Predictive) (said [] e) in
+        record { belonging = ap (belongs m) is ∙ finished-belongs m kinds.Predictive; predictive = ap kindOf is; rest-is = ap (restOf m) is ∙ sym e }
+    go (d ∷ n) e =
+        let is : c ≡ Open kinds.Predictive (nodeOf m []) 0 = at (Open kinds.Predictive (nodeOf m []) 0) (said (d ∷ n) e) in
+        record {
+          belonging = ap (belongs m) is ∙ belongs-fresh m (image .catalogue .rising) kinds.Predictive (nodeOf m []) (nodeOf-node m [] root);
+          predictive = ap kindOf is;
+          rest-is = ap (restOf m) is ∙ ap (λ (q : Key). setOf m kinds.Predictive q) (pathOf-nodeOf m [] root) ∙ all;
+        }
+
+pub start-told : (i : Image) → MapImage i → (q : Key) → ¬ (saidStarted NotAnImage ≡ startSays kinds.Predictive i q)
+start-told i image q h = let e = h ∙ startSays-accepted i kinds.Predictive q (mapImage-tested i image) in let z : _≡_ {A = ℕ} 6 0 = cc in omega arith
 
 -- ---- what a step answered
-
--- what is said where no entry was given
-abbrev pub quiet : Stepped → List ℕ
-quiet (stepped.Gave n v d) = []
-quiet (stepped.End d) = 0 ∷ []
-quiet stepped.NotAnImage = refusalNumber Refusal.NotAnImage ∷ []
-quiet stepped.BadPlace = refusalNumber Refusal.BadPlace ∷ []
 
 abbrev endOf : Cursor → Cursor
 endOf (Open kind top last) = Finished kind
@@ -59,100 +125,137 @@ step-in m (Open kind top last) = go (nextIn m (setOf m kind (pathOf m top)) last
     go (some e) = refl
 step-in m (Finished kind) = refl
 
-pub data StepView (i : Image) (c : Cursor) (r : Stepped) : Type 0 where
-  no-image : imageTest i ≡ false → r ≡ stepped.NotAnImage → StepView i c r
-  strange : imageTest i ≡ true → belongs (imageMap i) c ≡ false → r ≡ stepped.BadPlace → StepView i c r
-  ended : imageTest i ≡ true → belongs (imageMap i) c ≡ true → nextEntry (imageMap i) c ≡ none → (d : Cursor) → r ≡ stepped.End d → StepView i c r
-  gave : imageTest i ≡ true → belongs (imageMap i) c ≡ true → (e : Entry) → nextEntry (imageMap i) c ≡ some e
-      → r ≡ stepped.Gave (nodeOf (imageMap i) (e .0)) (e .1) (nextCursor (imageMap i) c e) → StepView i c r
-
-pub step-view : (i : Image) (c : Cursor) (r : Stepped) → saidStepped r ≡ stepSays i c → StepView i c r
+stands-step : (i : Image) → MapImage i → (c : Cursor) (rest : Map) → Stands i c rest → (r : Stepped) → saidStepped r ≡ stepSays i c → r ≡ steppedTo (imageMap i) c (head? rest)
 unfolding stepSays
-step-view i c r h = go (imageTest i) refl (belongs (imageMap i) c) refl
-  where
-    found : imageTest i ≡ true → belongs (imageMap i) c ≡ true → (o : Option Entry) → nextEntry (imageMap i) c ≡ o → r ≡ steppedTo (imageMap i) c o → StepView i c r
-    found e f none g q = StepView.ended e f g (endOf c) q
-    found e f (some d) g q = StepView.gave e f d g q
+stands-step i image c rest s r h =
+    let m : Map = imageMap i in
+    let next : nextEntry m c ≡ head? rest = next-head m c ∙ ap head? (s .rest-is) in
+    saidStepped-one r (steppedTo m c (head? rest))
+    (h ∙ rw (mapImage-tested i image, s .belonging) (step-in m c) ∙ ap (λ (o : Option Entry). saidStepped (steppedTo m c o)) next)
 
-    go : (t : Bool) → imageTest i ≡ t → (b : Bool) → belongs (imageMap i) c ≡ b → StepView i c r
-    go false e b f = StepView.no-image e (saidStepped-one r stepped.NotAnImage (h ∙ rw e))
-    go true e false f = StepView.strange e f (saidStepped-one r stepped.BadPlace (h ∙ rw (e, f)))
-    go true e true f =
-        found e f (nextEntry (imageMap i) c) refl
-        (saidStepped-one r (steppedTo (imageMap i) c (nextEntry (imageMap i) c)) (h ∙ rw (e, f) (step-in (imageMap i) c)))
+-- the key of a cursor, in a buffer that holds it
+key-put : (i : Image) → MapImage i → (c : Cursor) → belongs (imageMap i) c ≡ true → (k : Key) → keyOf (imageMap i) c ≡ some k → (out : List ℕ) → length k ≤ length out
+    → (keySays i c out ≡ 0 ∷ length k ∷ []) × (keyOut i c out ≡ over k out)
+unfolding keySays keyOut over
+key-put i image c b k is out fits =
+    let room : leb (length k) (length out) ≡ true = le-leb _ _ fits in
+    (rw (mapImage-tested i image, b, is, room), rw (mapImage-tested i image, b, is, room))
 
--- ---- what `list_next` says
+-- ---- the listing
 
-pub record ListIs (i : Image) (c : Cursor) (key line says key-after after : List ℕ) : Type 0 where
-  pub says-is : listSays i c key line ≡ says
-  pub key-is : listKey i c key ≡ key-after
-  pub line-is : listLine i c key line ≡ after
+-- a key, and what stands behind it
+text-parts : (e : Entry) → tabText e ≡ e .0 ++ tabText ([], e .1)
+unfolding tabText tabLine
+text-parts e = append-assoc (e .0) (tab ∷ decimal (e .1)) (lineFeed ∷ [])
 
-module _ (i : Image) (c : Cursor) (key line : List ℕ) where
-  pub list-refused : imageTest i ≡ false → ListIs i c key line (refusalNumber Refusal.NotAnImage ∷ []) key line
-  unfolding listSays listKey listLine listed
-  list-refused e = record { says-is = rw e; key-is = rw e; line-is = rw e }
+-- so far s is put, and the text of the rest makes it the text of the map
+pub record Listing (i : Image) (out₀ : List ℕ) (c : Cursor) (at : ℕ) (out : List ℕ) : Type 0 where
+  s : List ℕ
+  rest : Map
+  stands : Stands i c rest
+  put : Put s out₀ at out
+  whole : s ++ mapText rest ≡ mapText (imageMap i)
 
-  pub list-strange : imageTest i ≡ true → belongs (imageMap i) c ≡ false → ListIs i c key line (refusalNumber Refusal.BadPlace ∷ []) key line
-  unfolding listSays listKey listLine listed
-  list-strange e f = record { says-is = rw (e, f); key-is = rw (e, f); line-is = rw (e, f) }
+-- a step gave an entry with that value, and the cursor behind it
+pub record Turn (i : Image) (out₀ : List ℕ) (c : Cursor) (at : ℕ) (out : List ℕ) (v : ℕ) (next : Cursor) : Type 0 where
+  pub key : Key
+  pub says : keySays i next (take (length out - at) (drop at out)) ≡ 0 ∷ length key ∷ []
+  pub left : take at out ++ (keyOut i next (take (length out - at) (drop at out)) ++ drop (length out - at) (drop at out)) ≡ take at out ++ over key (drop at out)
+  pub room : at + length key + length (tabText ([], v)) ≤ length out
+  pub less : length (restOf (imageMap i) next) < length (restOf (imageMap i) c)
+  pub then : (to : ℕ) (more : List ℕ) → to ≡ at + length key + length (tabText ([], v))
+      → more ≡ take (at + length key) (take at out ++ over key (drop at out)) ++ over (tabText ([], v)) (drop (at + length key) (take at out ++ over key (drop at out)))
+      → Listing i out₀ next to more
 
-  pub list-ends : imageTest i ≡ true → belongs (imageMap i) c ≡ true → nextEntry (imageMap i) c ≡ none → ListIs i c key line (0 ∷ []) key line
-  unfolding listSays listKey listLine listed
-  list-ends e f g = record { says-is = rw (e, f, g); key-is = rw (e, f, g); line-is = rw (e, f, g) }
+module _ (i : Image) (image : MapImage i) (out₀ : List ℕ) where
+  abbrev m : Map
+  m = imageMap i
 
-  pub list-gives : imageTest i ≡ true → belongs (imageMap i) c ≡ true → (d : Entry) → nextEntry (imageMap i) c ≡ some d
-      → ListIs i c key line (saysLine (nextCursor (imageMap i) c d) (shown (imageMap i) c d) key line) (writtenTo (shown (imageMap i) c d .0) key) (lineWith (shown (imageMap i) c d) key line)
-  unfolding listSays listKey listLine listed
-  list-gives e f d g = record { says-is = rw (e, f, g); key-is = rw (e, f, g); line-is = rw (e, f, g) }
+  pub listing-starts : (c : Cursor) → saidStarted (At c) ≡ startSays kinds.Predictive i [] → Listing i out₀ c 0 out₀
+  listing-starts c h = record { s = []; rest = m; stands = start-rest i image c h; put = put-start out₀; whole = refl }
 
-  pub list-said : (r : Stepped) → saidStepped r ≡ stepSays i c → ((n v : ℕ) (d : Cursor) → ¬ (r ≡ stepped.Gave n v d)) → ListIs i c key line (quiet r) key line
-  list-said r h none-given = go (step-view i c r h)
-    where
-      go : StepView i c r → ListIs i c key line (quiet r) key line
-      go (StepView.no-image e q) = rw q (list-refused e)
-      go (StepView.strange e f q) = rw q (list-strange e f)
-      go (StepView.ended e f g d q) = rw q (list-ends e f g)
-      go (StepView.gave e f d g q) = absurd (none-given _ _ _ q)
+  module _ (c : Cursor) (at : ℕ) (out : List ℕ) (l : Listing i out₀ c at out) where
+    -- the place is inside the buffer
+    pub listing-within : length (mapText m) ≤ length out₀ → at ≤ length out
+    listing-within fits =
+        let (e, o) = l .put in
+        let long : length (l .s) + length (mapText (l .rest)) ≡ length (mapText m) = sym (length-append (l .s) (mapText (l .rest))) ∙ ap length (l .whole) in
+        omega (arith, e, fits, long, ap length o, length-over (l .s) out₀ (omega (arith, fits, long)))
 
-  pub list-ended : (d : Cursor) → saidStepped (stepped.End d) ≡ stepSays i c → ListIs i c key line (0 ∷ []) key line
-  list-ended d h = list-said (stepped.End d) h (λ n v next e. let z : _≡_ {A = ℕ} 0 1 = cc in omega arith)
+    pub listing-ends : (r : Stepped) → saidStepped r ≡ stepSays i c → ((n v : ℕ) (d : Cursor) → ¬ (r ≡ stepped.Gave n v d)) → Put (mapText m) out₀ at out
+    unfolding mapText
+    listing-ends r h none-given = go (l .rest) refl
+      where
+        is : r ≡ steppedTo m c (head? (l .rest))
+        is = stands-step i image c (l .rest) (l .stands) r h
 
--- ---- the entry that a step gave
+        go : (n : Map) → l .rest ≡ n → Put (mapText m) out₀ at out
+        go [] e =
+            let all : l .s ≡ mapText m = sym (append-nil (l .s)) ∙ ap (λ (n : Map). l .s ++ mapText n) (sym e) ∙ l .whole in
+            subst (λ (t : List ℕ). Put t out₀ at out) all (l .put)
+        go (e ∷ n) q = absurd (none-given _ _ _ (is ∙ ap (λ (x : Map). steppedTo m c (head? x)) q))
 
--- what is said of the entry that a step gave
-pub record NextIs (i : Image) (c : Cursor) (next : Cursor) (v : ℕ) (key line : List ℕ) : Type 0 where
-  pub says-is : givenSays i next v key line ≡ listSays i c key line
-  pub key-is : keyOut i next key ≡ listKey i c key
-  pub line-is : givenLine i next v key line ≡ listLine i c key line
+    pub listing-turn : length (mapText m) ≤ length out₀ → (n v : ℕ) (next : Cursor) → saidStepped (stepped.Gave n v next) ≡ stepSays i c → Turn i out₀ c at out v next
+    unfolding mapText
+    listing-turn fits n v next h = go (l .rest) refl
+      where
+        is : stepped.Gave n v next ≡ steppedTo m c (head? (l .rest))
+        is = stands-step i image c (l .rest) (l .stands) (stepped.Gave n v next) h
 
-pub given-next : (i : Image) (c : Cursor) (n v : ℕ) (next : Cursor) (key line : List ℕ) → (imageTest i ≡ true → MapImage i)
-    → saidStepped (stepped.Gave n v next) ≡ stepSays i c → NextIs i c next v key line
-unfolding keyOut
-given-next i c n v next key line image h = go (step-view i c (stepped.Gave n v next) h)
-  where
-    m : Map
-    m = imageMap i
+        turn : (e : Entry) (rest : Map) → l .rest ≡ e ∷ rest → v ≡ e .1 → (d : Cursor) → nextCursor m c e ≡ d → Turn i out₀ c at out v d
+        turn e rest q value d to =
+            let tail : List ℕ = tabText ([], v) in
+            let r : Rising m = image .catalogue .rising in
+            let st = l .stands in
+            let (pe, po) = l .put in
+            let given : nextEntry m c ≡ some e = next-head m c ∙ ap head? (st .rest-is ∙ q) in
+            let belonging : belongs m d ≡ true = ap (belongs m) (sym to) ∙ next-belongs m r c e (st .belonging) given in
+            let key-of : keyOf m d ≡ some (e .0) = ap (keyOf m) (sym to) ∙ next-key m r c e (st .predictive) given in
+            let rests : e ∷ restOf m (nextCursor m c e) ≡ e ∷ rest = sym (rest-step m r c e given) ∙ st .rest-is ∙ q in
+            let behind : restOf m (nextCursor m c e) ≡ rest = cc in
+            let at-rest : restOf m d ≡ rest = ap (restOf m) (sym to) ∙ behind in
+            let text : mapText (l .rest) ≡ tabText e ++ mapText rest = ap mapText q in
+            let long : length (l .s) + length (mapText (l .rest)) ≡ length (mapText m) = sym (length-append (l .s) (mapText (l .rest))) ∙ ap length (l .whole) in
+            let long-rest : length (mapText (l .rest)) ≡ length (tabText e) + length (mapText rest) = ap length text ∙ length-append (tabText e) (mapText rest) in
+            let same-tail : tabText ([], e .1) ≡ tail = ap (λ (x : ℕ). tabText ([], x)) (sym value) in
+            let parts : tabText e ≡ e .0 ++ tail = text-parts e ∙ ap (λ (t : List ℕ). e .0 ++ t) same-tail in
+            let long-text : length (tabText e) ≡ length (e .0) + length tail = ap length parts ∙ length-append (e .0) tail in
+            let size : length out ≡ length out₀ = ap length po ∙ length-over (l .s) out₀ (omega (arith, fits, long)) in
+            let room : at + length (e .0) + length tail ≤ length out = omega (arith, fits, long, long-rest, long-text, size, pe) in
+            let keyed = key-put i image d belonging (e .0) key-of (drop at out) (omega (arith, room, length-drop at out)) in
+            let all : take (length out - at) (drop at out) ≡ drop at out = take-all (length out - at) (drop at out) (omega (arith, length-drop at out)) in
+            record {
+              key = e .0;
+              says = ap (keySays i d) all ∙ keyed .0;
+              left =
+                  ap (λ (xs : List ℕ). take at out ++ (keyOut i d xs ++ drop (length out - at) (drop at out))) all
+                  ∙ ap (λ (xs : List ℕ). take at out ++ (keyOut i d (drop at out) ++ xs)) (drop-of-length-le (drop at out) {i = length out - at} (omega (arith, length-drop at out)))
+                  ∙ ap (λ (xs : List ℕ). take at out ++ xs) (append-nil (keyOut i d (drop at out)) ∙ keyed .1);
+              room = room;
+              less = omega (arith, ap length at-rest, ap length (st .rest-is ∙ q));
+              then =
+                  λ next-at more a b.
+                  record {
+                    s = (l .s ++ e .0) ++ tail;
+                    rest = rest;
+                    stands = record { belonging = belonging; predictive = ap kindOf (sym to) ∙ next-kind m c e ∙ st .predictive; rest-is = at-rest };
+                    put =
+                        put-behind (l .s ++ e .0) tail out₀ (at + length (e .0)) (take at out ++ over (e .0) (drop at out)) next-at more
+                        (put-behind (l .s) (e .0) out₀ at out (at + length (e .0)) (take at out ++ over (e .0) (drop at out)) (l .put) refl refl) a b;
+                    whole =
+                        append-assoc (l .s ++ e .0) tail (mapText rest)
+                        ∙ append-assoc (l .s) (e .0) (tail ++ mapText rest)
+                        ∙ ap (λ (t : List ℕ). l .s ++ t) (sym (append-assoc (e .0) tail (mapText rest)) ∙ ap (λ (t : List ℕ). t ++ mapText rest) (sym parts) ∙ sym text)
+                        ∙ l .whole;
+                  };
+            }
 
-    at-next : (e : Entry) → imageTest i ≡ true → belongs m c ≡ true → nextEntry m c ≡ some e → NextIs i c (nextCursor m c e) (e .1) key line
-    at-next e t b g =
-        let r : Rising m = image t .catalogue .rising in
-        let belonging = next-belongs m r c e b g in
-        let key-of = next-key m r c e g in
-        let is = given-key i (nextCursor m c e) (e .1) key line t belonging (shown m c e .0) key-of in
-        let lists = list-gives i c key line t b e g in
-        let whole = shown-value m r c e in
-        record {
-          says-is = is .says-is ∙ ap (λ (d : Entry). saysLine (nextCursor m c e) d key line) whole ∙ sym (lists .says-is);
-          key-is = rw (t, belonging, key-of) (sym (lists .key-is));
-          line-is = is .line-is ∙ ap (λ (d : Entry). lineWith d key line) whole ∙ sym (lists .line-is);
-        }
-
-    go : StepView i c (stepped.Gave n v next) → NextIs i c next v key line
-    go (StepView.no-image e q) = let z : _≡_ {A = ℕ} 0 1 = cc in absurd (omega arith)
-    go (StepView.strange e f q) = let z : _≡_ {A = ℕ} 0 1 = cc in absurd (omega arith)
-    go (StepView.ended e f g d q) = let z : _≡_ {A = ℕ} 0 1 = cc in absurd (omega arith)
-    go (StepView.gave t f e g q) =
-        let at : next ≡ nextCursor m c e = cc in
-        let value : v ≡ e .1 = cc in
-        rw (at, value) (at-next e t f g)
+        go : (rest : Map) → l .rest ≡ rest → Turn i out₀ c at out v next
+        go [] q =
+            let none-given : stepped.Gave n v next ≡ stepped.End (endOf c) = is ∙ ap (λ (x : Map). steppedTo m c (head? x)) q in
+            let z : _≡_ {A = ℕ} 0 1 = cc in absurd (omega arith)
+        go (e ∷ rest) q =
+            let gave : stepped.Gave n v next ≡ stepped.Gave (nodeOf m (e .0)) (e .1) (nextCursor m c e) = is ∙ ap (λ (x : Map). steppedTo m c (head? x)) q in
+            let value : v ≡ e .1 = cc in
+            let to-next : nextCursor m c e ≡ next = cc in
+            turn e rest q value next to-next

@@ -2,7 +2,7 @@
 --
 --     next-head                  the next entry is the first of the rest
 --     next-member                it is one of the map
---     next-belongs, next-key     the cursor behind it belongs, and its key is the entry's, as `shown-value` shows it
+--     next-belongs, next-key     the cursor behind it belongs, and in a predictive listing its key is the entry's
 --     rest-step                  a step takes it from the rest
 -- Assumes nothing.
 use mathlib.Core.Path.{_≡_, refl, sym, ap, subst, _∙_}
@@ -10,7 +10,7 @@ use Prim.Native.Nat.{ℕ, zero, suc}
 use native.Mathlib.Omega.{arith}
 use mathlib.Core.Bool.{Bool, true, false}
 use mathlib.Core.List.{[], _∷_, head?}
-use mathlib.Core.Option.{some}
+use mathlib.Core.Option.{Option, none, some}
 use Rattle.keymap.specs.Members.{In, here}
 use Rattle.keymap.specs.Key.{Key, Below, isBelow}
 use Rattle.keymap.specs.Map.{Entry, Map, Before, Rising}
@@ -28,9 +28,33 @@ use Rattle.trie.specs.declared.Cursor.the-variants.{Open, Finished}
 use Rattle.trie.specs.declared.Stepped.the-variants as stepped
 use Rattle.trie.specs.declared.Spelled.the-variants as spelled
 use Rattle.trie.specs.Cursors.{setOf, belongs, nextIn}
-use Rattle.trie.specs.GivenKey.{keyOf}
+use Rattle.trie.specs.GivenKey.{givenKey, keyOf}
 use Rattle.trie.proofs.Laws.Cursors.{entry-path, setOf-rising, setOf-in, belongs-at, belongs-top}
-use Rattle.catalogue.specs.Listing.{nextEntry, nextCursor, shown, restIn, restOf}
+use Rattle.trie.proofs.Laws.GivenKey.{givenKey-predictive}
+
+-- the entry that a cursor gives next
+abbrev pub nextEntry : Map → Cursor → Option Entry
+nextEntry m (Open kind top last) = nextIn m (setOf m kind (pathOf m top)) last
+nextEntry m (Finished kind) = none
+
+-- and the cursor behind it
+abbrev pub nextCursor : Map → Cursor → Entry → Cursor
+nextCursor m (Open kind top last) e = Open kind top (nodeOf m (e .0))
+nextCursor m (Finished kind) e = Finished kind
+
+abbrev pub kindOf : Cursor → Kind
+kindOf (Open kind top last) = kind
+kindOf (Finished kind) = kind
+
+-- all of the set before the first step, and what stands above the key given last afterwards
+abbrev pub restIn : Map → Map → ℕ → Map
+restIn m set zero = set
+restIn m set (suc k) = keep (λ (e : Entry). isBelow (pathOf m (suc k)) (e .0)) set
+
+-- the entries that a listing has still to give
+abbrev pub restOf : Map → Cursor → Map
+restOf m (Open kind top last) = restIn m (setOf m kind (pathOf m top)) last
+restOf m (Finished kind) = []
 
 -- ---- the entry that is given next
 
@@ -53,14 +77,12 @@ module _ (m : Map) (r : Rising m) where
       ∙ belongs-at m r kind (pathOf m top) e (next-in m (setOf m kind (pathOf m top)) last e h)
   next-belongs (Finished kind) e b h = let z : _≡_ {A = ℕ} 0 1 = cc in absurd (omega arith)
 
-  pub next-key : (c : Cursor) (e : Entry) → nextEntry m c ≡ some e → keyOf m (nextCursor m c e) ≡ some (shown m c e .0)
+  pub next-key : (c : Cursor) (e : Entry) → kindOf c ≡ kinds.Predictive → nextEntry m c ≡ some e → keyOf m (nextCursor m c e) ≡ some (e .0)
   unfolding nodeOf
-  next-key (Open kind top last) e h = refl
-  next-key (Finished kind) e h = let z : _≡_ {A = ℕ} 0 1 = cc in absurd (omega arith)
-
-  pub shown-value : (c : Cursor) (e : Entry) → (shown m c e .0, e .1) ≡ shown m c e
-  shown-value (Open kind top last) e = refl
-  shown-value (Finished kind) e = refl
+  next-key (Open kind top last) e k h =
+      let i : In e m = next-member (Open kind top last) e h in
+      ap (λ (x : Key). some x) (ap (λ (d : Kind). givenKey m d top (nodeOf m (e .0))) k ∙ givenKey-predictive m top e i)
+  next-key (Finished kind) e k h = let z : _≡_ {A = ℕ} 0 1 = cc in absurd (omega arith)
 
 -- ---- the rest of a listing
 

@@ -4,8 +4,8 @@
 --     text-behind, text-refuses      lines behind lines that are all pushed go on with their number and their map, and the first that has a cause is the answer
 --     Stopped, text-answers          there is no other answer: 0, or the first refusal behind lines that are all pushed
 --     text-accepts, text-accepted    0 is answered exactly when every line is an entry of a nonempty key, and all prefixes are at most the capacity
---     Told, text-told, text-whole    the same of a text of any length, so that 1 and 2 never come
---     fill-text, file-text           what a sound pool answers of lines, and a pool that is reset of a text
+--     Told, text-told, text-whole    the same of a text of any length, so that 1 and 2 never come; `text-long`, `text-short`: a text by its length
+--     fill-text, reset-text          what a sound pool answers of lines, and a pool that is reset of a text
 -- Assumes nothing.
 use mathlib.Core.Path.{_≡_, refl, sym, ap, _∙_}
 use mathlib.Core.Logic.{_↔_, _⊎_, inl, inr}
@@ -35,8 +35,9 @@ use Rattle.pool.proofs.Laws.Meaning.{reset-means-empty, push-means-insert}
 use Rattle.pool.proofs.Laws.History.{call-says, prefixes-insertAll, fits-says}
 use Rattle.lines.specs.TabLine.{tabEntry}
 use Rattle.lines.specs.Text.{entryLines}
-use Rattle.catalogue.specs.Filling.{fileLimit, fillFrom, fillSays, fileSays, entriesIn, AllEntries}
-use Rattle.catalogue.specs.TextAnswers.{textFrom, textSays}
+use Rattle.catalogue.specs.Limits.{fileLimit}
+use Rattle.catalogue.specs.Filling.{fillFrom}
+use Rattle.catalogue.specs.TextAnswers.{textFrom, textSays, entriesIn, AllEntries}
 use Rattle.catalogue.proofs.Laws.Filling.{AllBytes, key-bytes, lines-bytes}
 
 -- ---- one line
@@ -220,11 +221,11 @@ pub data Told (most : ℕ) (text said : List ℕ) : Type 0 where
   refused : length text ≤ fileLimit → (s : Stopped most 1 [] (entryLines text)) → said ≡ s .number ∷ (1 + length (s .before)) ∷ [] → Told most text said
 
 module _ (most : ℕ) (text : List ℕ) where
-  text-long : fileLimit < length text → textSays most text ≡ []
+  pub text-long : fileLimit < length text → textSays most text ≡ []
   unfolding textSays
   text-long h = rw (lt-ltb _ _ h)
 
-  text-short : length text ≤ fileLimit → textSays most text ≡ textFrom most 1 [] (entryLines text)
+  pub text-short : length text ≤ fileLimit → textSays most text ≡ textFrom most 1 [] (entryLines text)
   unfolding textSays
   text-short h = rw (le-ltb _ _ h)
 
@@ -284,14 +285,8 @@ fill-text (l ∷ ls) n p s b = go (tabEntry l) refl (λ q t. fill-text ls (suc n
         let m : poolMap q ≡ insert (e .0) (e .1) (poolMap p) = push-means-insert p (e .0) (e .1) kb a in
         ih q (push-keeps p (e .0) (e .1) kb s) ∙ (λ i. textFrom (room i) (suc n) (m i) ls)))
 
-module _ (p : Pool) (h : recordWords ≤ length p) (text : List ℕ) (b : Bytes text) where
-  reset-text : fillSays (resetPool p) (entryLines text) ≡ textFrom (capacity p) 1 [] (entryLines text)
-  unfolding fillSays
-  reset-text =
-      let room : capacity (resetPool p) ≡ capacity p = rw (length-reset p) in
-      let m : poolMap (resetPool p) ≡ [] = reset-means-empty p h in
-      fill-text (entryLines text) 1 (resetPool p) (reset-sound p h) (lines-bytes text b) ∙ (λ i. textFrom (room i) 1 (m i) (entryLines text))
-
-  pub file-text : fileSays p text ≡ textSays (capacity p) text
-  unfolding fileSays textSays
-  file-text = ap (λ (s : List ℕ). cond (ltb fileLimit (length text)) [] s) reset-text
+pub reset-text : (p : Pool) → recordWords ≤ length p → (text : List ℕ) → Bytes text → fillFrom 1 (resetPool p) (entryLines text) ≡ textFrom (capacity p) 1 [] (entryLines text)
+reset-text p h text b =
+    let room : capacity (resetPool p) ≡ capacity p = rw (length-reset p) in
+    let m : poolMap (resetPool p) ≡ [] = reset-means-empty p h in
+    fill-text (entryLines text) 1 (resetPool p) (reset-sound p h) (lines-bytes text b) ∙ (λ i. textFrom (room i) 1 (m i) (entryLines text))

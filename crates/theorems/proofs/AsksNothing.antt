@@ -7,3 +7,4 @@ pub use Rattle.image.proofs.AsksNothing.{accept-asks-nothing, is-image-asks-not
 pub use Rattle.lines.proofs.AsksNothing.{tab-line-asks-nothing, tab-line-key-asks-nothing, next-line-asks-nothing, write-line-asks-nothing}
 pub use Rattle.trie.proofs.AsksNothing.{exact-match-asks-nothing, set-value-asks-nothing, is-prefix-asks-nothing, common-prefix-asks-nothing, common-prefix-part-asks-nothing, longest-prefix-asks-nothing, resume-asks-nothing, value-asks-nothing, prefix-len-asks-nothing, prefix-asks-nothing, predictive-search-asks-nothing, postfix-search-asks-nothing, step-asks-nothing, top-asks-nothing, finished-asks-nothing, root-asks-nothing, peek-asks-nothing, query-at-asks-nothing, query-until-at-asks-nothing, goto-at-asks-nothing, answer-is-prefix-asks-nothing, answer-is-match-asks-nothing, cursor-key-asks-nothing}
 pub use Rattle.trie.proofs.AsksNothing.{query-asks-nothing, query-until-asks-nothing, goto-longest-prefix-asks-nothing}
+pub use Rattle.catalogue.proofs.AsksNothing.{answer-asks-nothing, begin-asks-nothing, next-at-asks-nothing, take-read-asks-nothing}

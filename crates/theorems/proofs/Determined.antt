@@ -12,3 +12,4 @@ pub use Rattle.trie.proofs.Determined.{common-prefix-determined, common-prefix-
 pub use Rattle.trie.proofs.Determined.{root-determined, resume-determined, value-determined, prefix-len-determined, prefix-determined, peek-determined}
 pub use Rattle.trie.proofs.Determined.{query-determined, query-until-determined, goto-longest-prefix-determined}
 pub use Rattle.trie.proofs.Determined.{query-at-determined, query-until-at-determined, goto-at-determined, answer-is-prefix-determined, answer-is-match-determined}
+pub use Rattle.catalogue.proofs.Determined.{answer-determined, begin-determined, next-at-determined, take-read-determined}

@@ -6,6 +6,7 @@ pub mod Listing
 pub mod Demand2
 pub mod NotReset
 pub mod Lines
+pub mod Program
 pub mod Worked
 pub mod AsksNothing
 pub mod Determined

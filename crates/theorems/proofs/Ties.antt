@@ -12,3 +12,4 @@ pub use Rattle.trie.proofs.Ties.{common-prefix-says, common-prefix-part-says}
 pub use Rattle.trie.proofs.Ties.{root-says, resume-says, value-says, prefix-len-says, prefix-says, peek-says}
 pub use Rattle.trie.proofs.Ties.{query-claims, query-until-claims, goto-longest-prefix-claims, query-says, query-until-says, goto-longest-prefix-says}
 pub use Rattle.trie.proofs.Ties.{query-at-says, query-until-at-says, goto-at-says, answer-is-prefix-says, answer-is-match-says}
+pub use Rattle.catalogue.proofs.Ties.{answer-says, begin-says, next-at-says, take-read-says}

@@ -7,5 +7,6 @@ pub mod Demand2
 pub mod Demand1
 pub mod NotReset
 pub mod Lines
+pub mod Program
 pub mod Worked
 pub mod Ties

@@ -6,4 +6,5 @@ pub mod Listing
 pub mod Demand2
 pub mod NotReset
 pub mod Lines
+pub mod Program
 pub mod Worked

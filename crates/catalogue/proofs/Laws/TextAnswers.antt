@@ -1,6 +1,6 @@
 -- Laws of what a text is answered. A sound pool's words answer what its map tells of the text, so every answer, 0 among them, is told by the text alone.
 --
---     Cause, text-goes, text-stops   a line is pushed, and goes on with the map that has its entry; or it is 9, 3 or 4 with its number, each for its one cause
+--     text-goes, text-stops          a line is pushed, and goes on with the map that has its entry; or it is 9, 3 or 4 with its number, each for its one cause
 --     text-behind, text-refuses      lines behind lines that are all pushed go on with their number and their map, and the first that has a cause is the answer
 --     Stopped, text-answers          there is no other answer: 0, or the first refusal behind lines that are all pushed
 --     text-accepts, text-accepted    0 is answered exactly when every line is an entry of a nonempty key, and all prefixes are at most the capacity
@@ -37,17 +37,11 @@ use Rattle.lines.specs.TabLine.{tabEntry}
 use Rattle.lines.specs.Text.{entryLines}
 use Rattle.catalogue.specs.Limits.{fileLimit}
 use Rattle.catalogue.specs.Filling.{fillFrom}
+use Rattle.catalogue.specs.TextCases.{Cause, bad, empty, full, Whole}
 use Rattle.catalogue.specs.TextAnswers.{textFrom, textSays, entriesIn, AllEntries}
 use Rattle.catalogue.proofs.Laws.Filling.{AllBytes, key-bytes, lines-bytes}
 
 -- ---- one line
-
--- why a line is refused, and the number of that refusal
-pub data Cause (most : ℕ) (m : Map) (l : List ℕ) (number : ℕ) : Type 0 where
-  bad : tabEntry l ≡ none → number ≡ refusalNumber Refusal.BadLine → Cause most m l number
-  empty : (e : Entry) → tabEntry l ≡ some e → e .0 ≡ [] → number ≡ refusalNumber Refusal.EmptyKey → Cause most m l number
-  full : (e : Entry) → tabEntry l ≡ some e → ¬ (e .0 ≡ []) → most < length (prefixes (insert (e .0) (e .1) m)) → number ≡ refusalNumber Refusal.NoRoom
-      → Cause most m l number
 
 -- a line is pushed or refused
 data Line (most : ℕ) (m : Map) (l : List ℕ) : Type 0 where
@@ -207,12 +201,6 @@ text-accepted (l ∷ ls) most n m few h = go (line-view most m l) (λ x. text-ac
         (((e, f, d), a), rw f all)
 
 -- ---- a whole text
-
--- what a text must be to be pushed whole
-pub record Whole (most : ℕ) (text : List ℕ) : Type 0 where
-  pub short : length text ≤ fileLimit
-  pub entries : AllEntries (entryLines text)
-  pub few : length (prefixes (insertAll (entriesIn (entryLines text)) [])) ≤ most
 
 -- every answer, and when it comes
 pub data Told (most : ℕ) (text said : List ℕ) : Type 0 where

@@ -9,12 +9,18 @@ use borrow.Fn.World.{ArgsD, ResD}
 use Rattle.louds.proofs.bits.bit_at
 use Rattle.louds.proofs.bits.bit_at.Kinds as bit-at-kinds
 use Rattle.louds.proofs.bits.bit_at.Reads as bit-at-reads
+use Rattle.louds.proofs.rank.ones_in
+use Rattle.louds.proofs.rank.ones_in.Kinds as ones-in-kinds
+use Rattle.louds.proofs.rank.ones_in.Reads as ones-in-reads
 use Rattle.louds.proofs.rank.ones_before
 use Rattle.louds.proofs.rank.ones_before.Kinds as ones-before-kinds
 use Rattle.louds.proofs.rank.ones_before.Reads as ones-before-reads
 use Rattle.louds.proofs.rank.zeros_before
 use Rattle.louds.proofs.rank.zeros_before.Kinds as zeros-before-kinds
 use Rattle.louds.proofs.rank.zeros_before.Reads as zeros-before-reads
+use Rattle.louds.proofs.select.lowest_one
+use Rattle.louds.proofs.select.lowest_one.Kinds as lowest-one-kinds
+use Rattle.louds.proofs.select.lowest_one.Reads as lowest-one-reads
 use Rattle.louds.proofs.select.zero_at
 use Rattle.louds.proofs.select.zero_at.Kinds as zero-at-kinds
 use Rattle.louds.proofs.select.zero_at.Reads as zero-at-reads
@@ -77,3 +83,12 @@ module _ (κs : Lfts 1) where
   pub put-one-determined : (a : ArgsD put_one.signature κs) (r₁ r₂ : ResD put_one.signature κs) (s₁ s₂ : AtExit (endedOf 1 put-one-kinds.ps put-one-kinds.r) κs)
       → put-one-reads.Post κs a r₁ s₁ → put-one-reads.Post κs a r₂ s₂ → now (s₁ .0) ≡ now (s₂ .0)
   put-one-determined a r₁ r₂ s₁ s₂ p q = p ∙ sym q
+
+module _ (κs : Lfts 0) where
+  pub ones-in-determined : (a : ArgsD ones_in.signature κs) (r₁ r₂ : ResD ones_in.signature κs) (s₁ s₂ : AtExit (endedOf 0 ones-in-kinds.ps ones-in-kinds.r) κs)
+      → ones-in-reads.Post κs a r₁ s₁ → ones-in-reads.Post κs a r₂ s₂ → r₁ ≡ r₂
+  ones-in-determined a r₁ r₂ s₁ s₂ p q = p ∙ sym q
+
+  pub lowest-one-determined : (a : ArgsD lowest_one.signature κs) (r₁ r₂ : ResD lowest_one.signature κs) (s₁ s₂ : AtExit (endedOf 0 lowest-one-kinds.ps lowest-one-kinds.r) κs)
+      → lowest-one-reads.Post κs a r₁ s₁ → lowest-one-reads.Post κs a r₂ s₂ → r₁ ≡ r₂
+  lowest-one-determined a r₁ r₂ s₁ s₂ p q = p ∙ sym q

@@ -3,6 +3,7 @@ pub mod Rank
 pub mod Select
 pub mod Nodes
 pub mod Words
+pub mod Digits
 pub mod Put
 pub mod Degrees
 pub mod MapNodes

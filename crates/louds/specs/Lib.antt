@@ -1,3 +1,4 @@
+pub mod Digits
 pub mod Rank
 pub mod Select
 pub mod Nodes

@@ -6,8 +6,8 @@ ghost use Rattle.louds.specs.Rank.{onesBefore, zerosBefore};
 use crate::bits::WORD_BITS;
 use crate::bits::word_at;
 
-// At most 64, so the count fits.
-fn ones_in(word: u64) -> usize
+// How many ones a word has. At most 64, so the count fits.
+pub fn ones_in(word: u64) -> usize
     ensures { λ r. ⌜ r ≡ ones word ⌝ }
 {
     u64::count_ones(word) as usize

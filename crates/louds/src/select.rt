@@ -1,9 +1,18 @@
 // Selects: where the k-th zero or one stands, counted from 1, among the first `len` bits, or going down, among those before a place. The 0-th is missing.
 ghost use mathlib.Core.Path.{_≡_};
+ghost use lib.Count.{trailingZeros};
+ghost use Rattle.keymap.specs.Limits.{wordBits};
 ghost use Rattle.keymap.specs.Bits.{bit};
 ghost use Rattle.louds.specs.Select.{bitFrom, zeroAt, zeroFrom, oneAt, oneBack};
 use crate::Spot;
 use crate::bits::bit_at;
+
+// Where the lowest one of a word is; 64 if it has none.
+pub fn lowest_one(word: u64) -> usize
+    ensures { λ r. ⌜ r ≡ trailingZeros wordBits word ⌝ }
+{
+    u64::trailing_zeros(word) as usize
+}
 
 // The k-th bit that equals v, at `from` or beyond.
 fn bit_from(words: &[u64], len: usize, v: u64, from: usize, k: usize) -> Spot

@@ -1,7 +1,7 @@
 -- "Prove that any two outcomes allowed by it are equal" (01): the law of each public call, by its crate. Each is stated over the contract's own claim;
 -- where a place is lent and moved (query, query_until, goto_longest_prefix) the whole contract is one definition of `trie/specs/Incremental`, and the law is about that definition.
 -- A law that is missing leaves its name here unknown. Assumes nothing.
-pub use Rattle.louds.proofs.Determined.{bit-at-determined, ones-before-determined, zeros-before-determined, zero-at-determined, zero-from-determined, one-at-determined, one-back-determined, children-determined, parent-determined, put-one-determined}
+pub use Rattle.louds.proofs.Determined.{bit-at-determined, ones-before-determined, zeros-before-determined, zero-at-determined, zero-from-determined, one-at-determined, one-back-determined, children-determined, parent-determined, put-one-determined, ones-in-determined, lowest-one-determined}
 pub use Rattle.records.proofs.Determined.{entry-of-determined, label-of-determined, value-of-determined, first-child-determined, next-sibling-determined, parent-of-determined, last-record-determined, used-count-determined, capacity-of-determined, is-sound-determined}
 pub use Rattle.pool.proofs.Determined.{reset-determined, use-count-determined, push-determined}
 pub use Rattle.image.proofs.Determined.{build-determined, accept-determined, is-image-determined}

@@ -2,6 +2,7 @@
 -- so the ones before a place are those of the whole words before it and of the lowest part of its own.
 --
 --     ones-low      the lowest r bits, counted one by one and as the machine counts a masked word
+--     ones-in-word  the lowest part of a word more
 --     ones-whole    one whole word more
 --     ones-part     the whole words, and the part of the last
 --     ones-beyond   beyond the last word there are no ones
@@ -55,7 +56,7 @@ masked w n h = ap (λ (x : ℕ). bitAnd w (x - 1)) (one-shl n h) ∙ and-mask w 
 -- ---- words
 
 module _ (ws : List ℕ) where
-  ones-in-word : (w r : ℕ) → r ≤ wordBits → onesBefore (bit ws) (w * wordBits + r) ≡ onesBefore (bit ws) (w * wordBits) + ones (getD ws w 0 % 2 ^ r)
+  pub ones-in-word : (w r : ℕ) → r ≤ wordBits → onesBefore (bit ws) (w * wordBits + r) ≡ onesBefore (bit ws) (w * wordBits) + ones (getD ws w 0 % 2 ^ r)
   ones-in-word w r h =
       sumBelow-add (bit ws) (w * wordBits) r
       ∙ ap (λ (x : ℕ). onesBefore (bit ws) (w * wordBits) + x)

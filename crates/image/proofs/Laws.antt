@@ -3,8 +3,12 @@ pub mod Spelled
 pub mod Accept
 pub mod AcceptTest
 pub mod BitTests
+pub mod AllBelow
+pub mod WordWalks
+pub mod Gathered
 pub mod Ends
 pub mod Passed
+pub mod WordTest
 pub mod AcceptAnswer
 pub mod Meaning
 pub mod Walk

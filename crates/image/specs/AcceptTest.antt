@@ -1,4 +1,4 @@
--- The image test as the code makes it: lengths, unused bits and the first two bits, then one pass over the other bits with the ones so far and the bit before.
+-- The image test: lengths, unused bits and the first two bits, then one pass over the other bits with the ones so far and the bit before.
 -- A one is the node one above the ones before it, and its parent is the count of zeros before it; a one right after a one is its next sibling;
 -- and a zero right after a zero closes a node that has no child, which is the count of zeros before it.
 --

@@ -1,5 +1,6 @@
 pub mod Accept
 pub mod AcceptTest
+pub mod WordTest
 pub mod Meaning
 pub mod AcceptAnswer
 pub mod Buffers

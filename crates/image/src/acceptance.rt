@@ -1,115 +1,65 @@
-// The image test: are these slices the image of some map? One pass over the bits, linear in n, with no memory of its own; it ends on any words.
-// Node m is the m-th one, and its parent is the count of zeros before it. A one right after a one is the next sibling of the node before,
-// and a zero right after a zero closes a node without child.
+// The image test: are these slices the image of some map? One pass over the entries and two over the words, linear in n, with no memory of its own;
+// it ends on any words.
+use crate::word_test::words_fit;
 use louds::WORD_BITS;
-use louds::bit_at;
+use louds::ones_before;
 use records::words::MOST_RECORDS;
 ghost use mathlib.Core.Path.{_≡_};
-ghost use Prim.Native.Nat.{ℕ, _+_, _*_, _≤_, _<_};
+ghost use mathlib.Core.Bool.{cond};
+ghost use Prim.Native.Nat.{_+_, _*_};
 ghost use lib.ListN.{length};
-ghost use Rattle.keymap.specs.Limits.{mostRecords};
+ghost use lib.Dec.{ltb};
+ghost use Rattle.keymap.specs.Label.{mark};
 ghost use Rattle.image.specs.Meaning.{lent};
-ghost use Rattle.image.specs.AcceptTest.{entryFits, labelsRise, oneFits, childlessFits, bitFits, passesFrom, imageTest};
+ghost use Rattle.image.specs.AcceptTest.{passesFrom, imageTest};
+ghost use Rattle.image.specs.WordTest.{entriesFit, Framed};
 
 // What a value adds to its label.
 pub const MARK: u16 = records::words::MARK as u16;
 // An image has no more nodes besides the root.
 const MOST_NODES: usize = MOST_RECORDS as usize;
 
-// An entry is below 512, and an unmarked one has value 0.
-fn entry_fits(entry: u16, value: u32) -> bool
-    ensures { λ r. ⌜ r ≡ entryFits entry value ⌝ }
+// The value of an unmarked entry, which has to be 0; 0 of a marked one.
+fn unmarked_value(entry: u16, value: u32) -> u32
+    ensures { λ r. ⌜ r ≡ cond (ltb entry mark) value 0 ⌝ }
 {
-    if entry < MARK {
-        return value == 0;
-    }
-    entry < 2 * MARK
+    if entry < MARK { value } else { 0 }
 }
 
-// The labels of entries e and e + 1, without their marks, rise.
-fn labels_rise(labels: &[u16], e: usize) -> bool
-    requires { do ⌜ e + 1 < (← ⟦labels.len()⟧) ⌝ }
-    ensures { λ r. ⌜ r ≡ labelsRise (now (labels .entry)) e ⌝ }
+// Every entry is below 512, and every unmarked one has value 0. All are gathered, so that no branch is taken on any of them.
+fn entries_fit(labels: &[u16], values: &[u32]) -> bool
+    requires { ⌜ length (now values) ≡ length (now labels) ⌝ }
+    ensures { λ r. ⌜ r ≡ entriesFit (now (labels .entry)) (now (values .entry)) ⌝ }
 {
-    labels[e] % MARK < labels[e + 1] % MARK
-}
-
-// A one with `ones` ones and `zeros` zeros before it, and the bit `before` right before it, can be a node's.
-fn one_fits(labels: &[u16], values: &[u32], before: u64, ones: usize, zeros: usize) -> bool
-    requires { ⌜ length (now values) ≡ length (now labels) ⌝ ∗ ⌜ before + 1 ≤ ones ⌝ }
-    ensures { λ r. ⌜ r ≡ oneFits (now (labels .entry)) (now (values .entry)) before ones zeros ⌝ }
-{
-    if ones < zeros {
+    let mut any: u16 = 0;
+    let mut bad: u32 = 0;
+    let mut e: usize = 0;
+    while e < labels.len() {
+        let entry = labels[e];
+        any = any | entry;
+        bad = bad | unmarked_value(entry, values[e]);
+        e += 1;
+    }
+    if bad != 0 {
         return false;
     }
-    if labels.len() < ones {
-        return false;
-    }
-    let e = ones - 1;
-    if !entry_fits(labels[e], values[e]) {
-        return false;
-    }
-    if before == 0 {
-        return true;
-    }
-    labels_rise(labels, ones - 2)
-}
-
-// Node m can be without child: it is the root, or has a value.
-fn childless_fits(labels: &[u16], m: usize) -> bool
-    ensures { λ r. ⌜ r ≡ childlessFits (now (labels .entry)) m ⌝ }
-{
-    if m < 2 {
-        return true;
-    }
-    let e = m - 2;
-    if labels.len() <= e {
-        return false;
-    }
-    MARK <= labels[e]
-}
-
-// A bit can stand behind `ones` ones and `zeros` zeros, the last of them `before`.
-fn bit_fits(
-    labels: &[u16],
-    values: &[u32],
-    bit: u64,
-    before: u64,
-    ones: usize,
-    zeros: usize,
-) -> bool
-    requires { ⌜ length (now values) ≡ length (now labels) ⌝ ∗ ⌜ before + 1 ≤ ones ⌝ }
-    ensures { λ r. ⌜ r ≡ bitFits (now (labels .entry)) (now (values .entry)) bit before ones zeros ⌝ }
-{
-    if bit != 0 {
-        return one_fits(labels, values, before, ones, zeros);
-    }
-    if before != 0 {
-        return true;
-    }
-    childless_fits(labels, zeros)
+    any < 2 * MARK
 }
 
 // The bits from the third on fit, and the ones are as many as the nodes.
 fn passes(labels: &[u16], values: &[u32], words: &[u64]) -> bool
-    requires { ⌜ length (now values) ≡ length (now labels) ⌝ ∗ ⌜ length (now labels) ≤ mostRecords ⌝ }
+    requires { ⌜ length (now values) ≡ length (now labels) ⌝ ∗ ⌜ Framed (now labels) (now words) ⌝ }
     ensures { λ r. ⌜ r ≡ passesFrom (lent (now (labels .entry)) (now (values .entry)) (now (words .entry))) (2 * length (now (labels .entry)) + 1) 2 1 0 ⌝ }
 {
     let n = labels.len();
-    let len = 2 * n + 3;
-    let mut ones: usize = 1;
-    let mut before: u64 = 0;
-    let mut p: usize = 2;
-    while p < len {
-        let bit = bit_at(words, p);
-        if !bit_fits(labels, values, bit, before, ones, p - ones) {
-            return false;
-        }
-        ones += bit as usize;
-        before = bit;
-        p += 1;
+    // so every node that a bit names has its entry
+    if ones_before(words, 2 * n + 3) != n + 1 {
+        return false;
     }
-    ones == n + 1
+    if !entries_fit(labels, values) {
+        return false;
+    }
+    words_fit(labels, words)
 }
 
 // Whether the slices are the image of some map.

@@ -4,6 +4,7 @@ pub mod answers;
 mod breadth_first;
 mod buffers;
 mod entries;
+mod word_test;
 
 use crate::answers::Built;
 use crate::answers::Checked;

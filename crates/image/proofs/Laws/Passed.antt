@@ -51,13 +51,13 @@ module _ (i : Image) where
   small = bit-small (i .words)
 
   -- what the test asks of the bit after place q
-  abbrev FitsAfter : ℕ → Type 0
+  abbrev pub FitsAfter : ℕ → Type 0
   FitsAfter q = bitFits (i .labels) (i .values) (b (suc q)) (b q) (onesBefore b (suc q)) (zerosBefore b (suc q)) ≡ true
 
   zeros-count : (q : ℕ) → q - onesBefore b q ≡ zerosBefore b q
   zeros-count q = omega (arith, ones-zeros b small q)
 
-  passes-told : (left p : ℕ) → passesFrom i left (suc p) (onesBefore b (suc p)) (b p) ≡ true
+  pub passes-told : (left p : ℕ) → passesFrom i left (suc p) (onesBefore b (suc p)) (b p) ≡ true
       → ((q : ℕ) → p ≤ q → q < p + left → FitsAfter q) × (onesBefore b (suc p + left) ≡ n + 1)
   unfolding passesFrom
   passes-told zero p h = (λ q lo hi. absurd (omega arith), ap (onesBefore b) (omega arith) ∙ eqb-true (onesBefore b (suc p)) (n + 1) h)
@@ -68,7 +68,7 @@ module _ (i : Image) where
         ap (onesBefore b) (omega arith) ∙ ih .1,
       )
 
-  passes-made : (left p : ℕ) → ((q : ℕ) → p ≤ q → q < p + left → FitsAfter q) → onesBefore b (suc p + left) ≡ n + 1
+  pub passes-made : (left p : ℕ) → ((q : ℕ) → p ≤ q → q < p + left → FitsAfter q) → onesBefore b (suc p + left) ≡ n + 1
       → passesFrom i left (suc p) (onesBefore b (suc p)) (b p) ≡ true
   unfolding passesFrom
   passes-made zero p f e = eq-eqb (onesBefore b (suc p)) (n + 1) (ap (onesBefore b) (omega arith) ∙ e)
@@ -79,17 +79,17 @@ module _ (i : Image) where
   -- ---- what the pass tells
 
   -- all that the test asks of the bits below the end
-  record Passed : Type 0 where
-    first : b 0 ≡ 1
-    second : b 1 ≡ 0
-    each : (q : ℕ) → 1 ≤ q → suc q < bitsFor n → FitsAfter q
-    ones : onesBefore b (bitsFor n) ≡ n + 1
+  pub record Passed : Type 0 where
+    pub first : b 0 ≡ 1
+    pub second : b 1 ≡ 0
+    pub each : (q : ℕ) → 1 ≤ q → suc q < bitsFor n → FitsAfter q
+    pub ones : onesBefore b (bitsFor n) ≡ n + 1
 
   module _ (t : Passed) where
     zeros-all : zerosBefore b (bitsFor n) ≡ n + 2
     zeros-all = omega (arith, t .ones, ones-zeros b small (bitsFor n))
 
-    one-after : (q : ℕ) → 1 ≤ q → suc q < bitsFor n → b (suc q) ≡ 1 → OneFits (i .labels) (i .values) (b q) (onesBefore b (suc q)) (zerosBefore b (suc q))
+    pub one-after : (q : ℕ) → 1 ≤ q → suc q < bitsFor n → b (suc q) ≡ 1 → OneFits (i .labels) (i .values) (b q) (onesBefore b (suc q)) (zerosBefore b (suc q))
     one-after q lo hi e =
         oneFits-told (i .labels) (i .values) (b q) (onesBefore b (suc q)) (zerosBefore b (suc q))
         (sym (bitFits-one (i .labels) (i .values) (b (suc q)) (b q) (onesBefore b (suc q)) (zerosBefore b (suc q)) (λ z. omega arith)) ∙ t .each q lo hi)
@@ -141,13 +141,13 @@ module _ (i : Image) where
           high = omega (arith, node-fits m h .climbs, h .rank);
         }
 
-    passed-small : (m : ℕ) → 2 ≤ m → m ≤ n + 1 → entryOf i m < 2 * mark
+    pub passed-small : (m : ℕ) → 2 ≤ m → m ≤ n + 1 → entryOf i m < 2 * mark
     passed-small m lo hi =
         let h = node-at m lo hi in
         let e : onesBefore b (suc (h .before)) - 1 ≡ m - 2 = omega (arith, h .rank) in
         rw e at (node-fits m h .small)
 
-    passed-plain : (m : ℕ) → 2 ≤ m → m ≤ n + 1 → entryOf i m < mark → valueOf i m ≡ 0
+    pub passed-plain : (m : ℕ) → 2 ≤ m → m ≤ n + 1 → entryOf i m < mark → valueOf i m ≡ 0
     passed-plain m lo hi u =
         let h = node-at m lo hi in
         let e : onesBefore b (suc (h .before)) - 1 ≡ m - 2 = omega (arith, h .rank) in
@@ -284,7 +284,7 @@ module _ (i : Image) where
 -- ---- the test
 
 module _ (i : Image) where
-  start-same : bit (i .words) 0 ≡ 1 → bit (i .words) 1 ≡ 0
+  pub start-same : bit (i .words) 0 ≡ 1 → bit (i .words) 1 ≡ 0
       → passesFrom i (2 * entries i + 1) 2 1 0 ≡ passesFrom i (2 * entries i + 1) 2 (onesBefore (bit (i .words)) 2) (bit (i .words) 1)
   start-same e f =
       let b = bit (i .words) in

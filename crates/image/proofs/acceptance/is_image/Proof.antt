@@ -1,8 +1,11 @@
 -- `image::acceptance::is_image` meets its contract: at each return the tests that led there say which case of `imageTest` holds. Assumes nothing.
 use mathlib.Core.Path.{sym, _∙_}
+use Prim.Native.Nat.{ℕ}
+use lib.ListN.{length}
 use borrow.Author.Needs.{needs}
 use Rattle.image.specs.Meaning.{lent}
 use Rattle.image.proofs.Laws.AcceptTest.{imageTest-many, imageTest-values, imageTest-words, imageTest-unused, imageTest-start, imageTest-pass}
+use Rattle.image.proofs.Laws.Ends.{first-bits, unused-bits}
 use Rattle.image.proofs.acceptance.is_image.Statement.{statement}
 use Rattle.image.proofs.acceptance.is_image.Tie as tie
 
@@ -61,7 +64,22 @@ returns-5 c =
     sym (imageTest-start i (c .before .before .before .before .before .before .if1 .left) (c .before .before .before .before .before .if2 .left) (c .before .before .before .before .if3 .left) (c .before .before .if4 .left) (c .if5 .taken))
 
 passes-requires : tie.Need-passes-requires
-passes-requires c κs = search needs
+passes-requires c κs =
+    let a = c .before .before .before .before .before .before .before .before .before .before .args in
+    let ws = a .words .now in
+    let n : ℕ = length (a .labels .now) in
+    let lengths = c .before .before .before .before .before .before in
+    let start = first-bits ws .1 (c .if5 .left) in (
+      c .before .before .before .before .before .if2 .left,
+      record {
+        few = lengths .if1 .left;
+        words-fit = c .before .before .before .before .if3 .left;
+        wide = λ w. c .before .before .before .before .before .before .before .shared-slice-known3 .given w .fits;
+        unused = unused-bits n ws (c .before .before .before .before .if3 .left) (c .before .before .if4 .left);
+        first = start .0;
+        second = start .1;
+      },
+    )
 
 returns-6 : tie.Need-returns-6
 returns-6 c =

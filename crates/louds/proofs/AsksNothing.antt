@@ -3,10 +3,14 @@ use contract.Lifetimes.{Lfts}
 use borrow.Fn.World.{ArgsD}
 use Rattle.louds.proofs.bits.bit_at
 use Rattle.louds.proofs.bits.bit_at.Reads as bit-at-reads
+use Rattle.louds.proofs.rank.ones_in
+use Rattle.louds.proofs.rank.ones_in.Reads as ones-in-reads
 use Rattle.louds.proofs.rank.ones_before
 use Rattle.louds.proofs.rank.ones_before.Reads as ones-before-reads
 use Rattle.louds.proofs.rank.zeros_before
 use Rattle.louds.proofs.rank.zeros_before.Reads as zeros-before-reads
+use Rattle.louds.proofs.select.lowest_one
+use Rattle.louds.proofs.select.lowest_one.Reads as lowest-one-reads
 use Rattle.louds.proofs.select.zero_at
 use Rattle.louds.proofs.select.zero_at.Reads as zero-at-reads
 use Rattle.louds.proofs.select.zero_from
@@ -25,11 +29,17 @@ use Rattle.louds.proofs.bits.put_one.Reads as put-one-reads
 pub bit-at-asks-nothing : (κs : Lfts 1) (a : ArgsD bit_at.signature κs) → bit-at-reads.Pre κs a
 bit-at-asks-nothing κs a = tt
 
+pub ones-in-asks-nothing : (κs : Lfts 0) (a : ArgsD ones_in.signature κs) → ones-in-reads.Pre κs a
+ones-in-asks-nothing κs a = tt
+
 pub ones-before-asks-nothing : (κs : Lfts 1) (a : ArgsD ones_before.signature κs) → ones-before-reads.Pre κs a
 ones-before-asks-nothing κs a = tt
 
 pub zeros-before-asks-nothing : (κs : Lfts 1) (a : ArgsD zeros_before.signature κs) → zeros-before-reads.Pre κs a
 zeros-before-asks-nothing κs a = tt
+
+pub lowest-one-asks-nothing : (κs : Lfts 0) (a : ArgsD lowest_one.signature κs) → lowest-one-reads.Pre κs a
+lowest-one-asks-nothing κs a = tt
 
 pub zero-at-asks-nothing : (κs : Lfts 1) (a : ArgsD zero_at.signature κs) → zero-at-reads.Pre κs a
 zero-at-asks-nothing κs a = tt

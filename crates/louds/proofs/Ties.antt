@@ -3,6 +3,8 @@
 use mathlib.Core.Path.{_≡_}
 use denote.Ref.{now}
 use Rattle.keymap.specs.Contract.{Tells}
+use lib.Count.{ones, trailingZeros}
+use Rattle.keymap.specs.Limits.{wordBits}
 use Rattle.keymap.specs.Bits.{bit}
 use Rattle.louds.specs.Put.{withOne}
 use Rattle.louds.specs.Rank.{onesBefore, zerosBefore}
@@ -16,6 +18,10 @@ use Rattle.louds.proofs.rank.ones_before.Kinds as ones-before-kinds
 use Rattle.louds.proofs.rank.ones_before.Reads as ones-before-reads
 use Rattle.louds.proofs.rank.zeros_before.Kinds as zeros-before-kinds
 use Rattle.louds.proofs.rank.zeros_before.Reads as zeros-before-reads
+use Rattle.louds.proofs.rank.ones_in.Kinds as ones-in-kinds
+use Rattle.louds.proofs.rank.ones_in.Reads as ones-in-reads
+use Rattle.louds.proofs.select.lowest_one.Kinds as lowest-one-kinds
+use Rattle.louds.proofs.select.lowest_one.Reads as lowest-one-reads
 use Rattle.louds.proofs.select.zero_at.Kinds as zero-at-kinds
 use Rattle.louds.proofs.select.zero_at.Reads as zero-at-reads
 use Rattle.louds.proofs.select.zero_from.Kinds as zero-from-kinds
@@ -58,3 +64,9 @@ children-says κs a r s p = p
 
 pub parent-says : Tells 1 parent-kinds.ps parent-kinds.r parent-reads.Post (λ κs a r s. r ≡ parentOf (bit (now (a .0))) (a .1 .0) (a .1 .1 .0))
 parent-says κs a r s p = p
+
+pub ones-in-says : Tells 0 ones-in-kinds.ps ones-in-kinds.r ones-in-reads.Post (λ κs a r s. r ≡ ones (a .0))
+ones-in-says κs a r s p = p
+
+pub lowest-one-says : Tells 0 lowest-one-kinds.ps lowest-one-kinds.r lowest-one-reads.Post (λ κs a r s. r ≡ trailingZeros wordBits (a .0))
+lowest-one-says κs a r s p = p

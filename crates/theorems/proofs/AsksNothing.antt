@@ -1,6 +1,6 @@
 -- "Any bytes, pool, image or place may be handed to any public call" (demand 1): the law of each public call that its contract requires nothing, by its crate.
 -- A law that is missing leaves its name here unknown. Assumes nothing.
-pub use Rattle.louds.proofs.AsksNothing.{bit-at-asks-nothing, ones-before-asks-nothing, zeros-before-asks-nothing, zero-at-asks-nothing, zero-from-asks-nothing, one-at-asks-nothing, one-back-asks-nothing, children-asks-nothing, parent-asks-nothing, put-one-asks-nothing}
+pub use Rattle.louds.proofs.AsksNothing.{bit-at-asks-nothing, ones-before-asks-nothing, zeros-before-asks-nothing, zero-at-asks-nothing, zero-from-asks-nothing, one-at-asks-nothing, one-back-asks-nothing, children-asks-nothing, parent-asks-nothing, put-one-asks-nothing, ones-in-asks-nothing, lowest-one-asks-nothing}
 pub use Rattle.records.proofs.AsksNothing.{entry-of-asks-nothing, label-of-asks-nothing, value-of-asks-nothing, first-child-asks-nothing, next-sibling-asks-nothing, parent-of-asks-nothing, last-record-asks-nothing, used-count-asks-nothing, capacity-of-asks-nothing, is-sound-asks-nothing}
 pub use Rattle.pool.proofs.AsksNothing.{reset-asks-nothing, use-count-asks-nothing, push-asks-nothing}
 pub use Rattle.image.proofs.AsksNothing.{accept-asks-nothing, is-image-asks-nothing, build-asks-nothing}

@@ -1,7 +1,7 @@
 -- What each public call's contract says, by its crate, in the definitions of which the demands speak: beside the laws of one outcome (`Determined`), which say that a contract settles
 -- the call, these say how. Where a place is lent and moved the contract's one clause is a promise (`-claims`), and the tie says what the promise comes to.
 -- A tie that is missing leaves its name here unknown. Assumes nothing.
-pub use Rattle.louds.proofs.Ties.{bit-at-says, put-one-says, ones-before-says, zeros-before-says, zero-at-says, zero-from-says, one-at-says, one-back-says, children-says, parent-says}
+pub use Rattle.louds.proofs.Ties.{bit-at-says, put-one-says, ones-before-says, zeros-before-says, zero-at-says, zero-from-says, one-at-says, one-back-says, children-says, parent-says, ones-in-says, lowest-one-says}
 pub use Rattle.records.proofs.Ties.{entry-of-says, label-of-says, value-of-says, first-child-says, next-sibling-says, parent-of-says, last-record-says, used-count-says, capacity-of-says, is-sound-says}
 pub use Rattle.pool.proofs.Ties.{reset-says, use-count-says, push-says}
 pub use Rattle.image.proofs.Ties.{build-says, accept-says, is-image-says}

@@ -1,176 +1,121 @@
 // Replays two lists of cases and writes the answer to each on a line: `rust_cases`, answered by the Rust, and `document_cases`, answered by the scope document.
 // tools/oracle/README.md has the letters. The memory that the calls are lent is main's own.
 mod cursors;
-mod images;
-mod memory;
+mod held;
 mod places;
-mod pools;
-mod printing;
 mod searches;
-mod state;
-mod text;
+mod spelling;
 
 ghost use Rattle.io.specs.Counts.{Counts};
-use cursors::keep_cursor;
-use cursors::kept_cursor;
-use memory::of_labels;
-use memory::of_values;
-use memory::of_words;
-use printing::end_line;
-use state::LABELS;
-use state::PLACE;
-use state::VALUES;
-use state::WORDS;
-use state::keep;
-use state::kept;
+use held::Held;
+use replay::images;
+use replay::memory::LONGEST;
+use replay::memory::Lent;
+use replay::memory::lend;
+use replay::memory::lend_built;
+use replay::memory::nothing;
+use replay::memory::of_labels;
+use replay::memory::of_values;
+use replay::memory::of_words;
+use replay::pools;
+use replay::printing::byte;
+use replay::printing::head;
+use replay::text;
+use replay::text::letter;
+use replay::text::line_at;
+use replay::text::number;
 
-// The longest that both lists are, and the longest bytes of a case.
-const LIST_BYTES: usize = 655360;
-
-const CASE_BYTES: usize = 1024;
+// The longest that a list is.
+const LIST_BYTES: usize = 327680;
 
 // The cases that read the image that is lent.
-fn read_lent(
-    letter: u8,
-    number: u32,
-    bytes: &[u8],
+fn read(
+    line: &[u8],
+    query: &[u8],
     labels: &[u16],
     values: &[u32],
     words: &[u64],
-    state: &mut [u32],
-) {
-    images::answer_lent(letter, labels, values, words);
-    searches::answer(letter, number, bytes, labels, values, words);
-    let cursor = kept_cursor(state);
-    keep_cursor(
-        state,
-        cursors::answer(letter, number, bytes, labels, values, words, cursor),
-    );
-    let here = kept(state, PLACE);
-    keep(
-        state,
-        PLACE,
-        places::answer(letter, number, bytes, labels, values, words, here),
-    );
+    held: Held,
+) -> Held {
+    let letter = letter(line);
+    let n = number(line);
+    images::look(letter, labels, values, words);
+    searches::answer(letter, n, query, labels, values, words);
+    spelling::answer(letter, n, query, labels, values, words, held);
+    let moved = places::answer(letter, n, query, labels, values, words, held);
+    cursors::answer(letter, n, line, query, labels, values, words, moved)
 }
 
-// The same, over as much of the memory as is lent.
-fn read(
-    letter: u8,
-    number: u32,
-    bytes: &[u8],
+// The cases that search, over as much of the memory as is lent, and the one that reads all of it.
+fn search(
+    line: &[u8],
     labels: &[u16],
-    values: &[u32],
+    values: &mut [u32],
     words: &[u64],
-    state: &mut [u32],
-) {
-    let a = of_labels(labels, kept(state, LABELS) as usize);
-    let b = of_values(values, kept(state, VALUES) as usize);
-    let c = of_words(words, kept(state, WORDS) as usize);
-    read_lent(
-        letter,
-        number,
-        bytes,
+    scratch: &[u32],
+    lent: Lent,
+    held: Held,
+) -> Held {
+    let letter = letter(line);
+    if letter == b'h' {
+        images::look_at(line, labels, values, words, scratch);
+        return held;
+    }
+    let mut space = [b'a'; LONGEST];
+    let n = number(line);
+    let k = text::key(letter, n, line, &mut space);
+    let a = of_labels(labels, lent.labels);
+    let b = of_values(values, lent.values);
+    let c = of_words(words, lent.words);
+    if letter == b's' {
+        searches::set_value(n, &space[..k], &labels[..a], &mut values[..b], &words[..c]);
+        return held;
+    }
+    read(
+        line,
+        &space[..k],
         &labels[..a],
         &values[..b],
         &words[..c],
-        state,
-    );
+        held,
+    )
 }
 
-// The case that sets a value, over as much of the memory as is lent.
-fn set_value(
-    letter: u8,
-    number: u32,
-    bytes: &[u8],
-    labels: &[u16],
-    values: &mut [u32],
-    words: &[u64],
-    state: &[u32],
-) {
-    let a = of_labels(labels, kept(state, LABELS) as usize);
-    let b = of_values(values, kept(state, VALUES) as usize);
-    let c = of_words(words, kept(state, WORDS) as usize);
-    searches::set_value(
-        letter,
-        number,
-        bytes,
-        &labels[..a],
-        &mut values[..b],
-        &words[..c],
-    );
-}
-
-fn search(
-    letter: u8,
-    number: u32,
-    bytes: &[u8],
-    labels: &[u16],
-    values: &mut [u32],
-    words: &[u64],
-    state: &mut [u32],
-) {
-    set_value(letter, number, bytes, labels, values, words, state);
-    read(letter, number, bytes, labels, values, words, state);
+// What is kept from case to case besides the memory.
+struct State {
+    lent: Lent,
+    held: Held,
 }
 
 fn answer(
-    letter: u8,
-    number: u32,
-    bytes: &[u8],
-    pool: &mut [u32],
-    labels: &mut [u16],
-    values: &mut [u32],
-    words: &mut [u64],
-    scratch: &mut [u32],
-    state: &mut [u32],
-) {
-    printing::text(&[letter]);
-    pools::answer(letter, number, bytes, pool, state);
-    images::answer(
-        letter,
-        number,
-        bytes,
-        pool,
-        labels,
-        values,
-        words,
-        scratch,
-        state,
-    );
-    search(letter, number, bytes, labels, values, words, state);
-    end_line();
-}
-
-// A title is written as it stands.
-fn line(
     line: &[u8],
     pool: &mut [u32],
     labels: &mut [u16],
     values: &mut [u32],
     words: &mut [u64],
     scratch: &mut [u32],
-    state: &mut [u32],
-) {
-    let letter = text::byte_at(line, 0);
-    if letter == b'#' {
-        printing::text(line);
-        end_line();
-        return;
-    }
-    let mut space = [0u8; CASE_BYTES];
-    let n = text::bytes(line, &mut space);
-    answer(
+    state: State,
+) -> State {
+    let letter = letter(line);
+    let n = number(line);
+    head(line);
+    let asked = lend(letter, n, state.lent);
+    pools::answer(letter, n, line, pool, asked.pool);
+    let built = images::answer(
         letter,
-        text::number(line),
-        &space[..n],
+        n,
+        line,
         pool,
         labels,
         values,
         words,
         scratch,
-        state,
+        asked.pool,
     );
+    let lent = lend_built(built, asked);
+    let held = search(line, labels, values, words, scratch, lent, state.held);
+    byte(b'\n');
+    State { lent, held }
 }
 
 fn replay(
@@ -180,24 +125,17 @@ fn replay(
     values: &mut [u32],
     words: &mut [u64],
     scratch: &mut [u32],
-    state: &mut [u32],
 ) {
+    let mut state = State {
+        lent: nothing(),
+        held: held::nothing(),
+    };
     let mut from = 0;
     while from < list.len() {
-        let end = text::line_end(list, from);
-        line(
-            &list[from..end],
-            pool,
-            labels,
-            values,
-            words,
-            scratch,
-            state,
-        );
-        if end == list.len() {
-            return;
-        }
-        from = end + 1;
+        let line = line_at(list, from);
+        from += line.len();
+        from += 1;
+        state = answer(line, pool, labels, values, words, scratch, state);
     }
 }
 
@@ -215,15 +153,6 @@ fn read_list(name: &[u8], room: &mut [u8]) -> usize
     n
 }
 
-// Both lists, one behind the other.
-fn read_lists(room: &mut [u8]) -> usize
-    ensures { λ r. ⌜ Counts r (now (room .exit)) ⌝ }
-{
-    let first = read_list(b"rust_cases", room);
-    let second = read_list(b"document_cases", &mut room[first..]);
-    first + second
-}
-
 fn main() {
     let mut room = [0u8; LIST_BYTES];
     let mut pool = [0u32; 20500];
@@ -231,8 +160,7 @@ fn main() {
     let mut values = [0u32; 4100];
     let mut words = [0u64; 130];
     let mut scratch = [0u32; 4096];
-    let mut state = [0u32; state::SIZE];
-    let n = read_lists(&mut room);
+    let n = read_list(b"rust_cases", &mut room);
     replay(
         &room[..n],
         &mut pool,
@@ -240,6 +168,14 @@ fn main() {
         &mut values,
         &mut words,
         &mut scratch,
-        &mut state,
+    );
+    let m = read_list(b"document_cases", &mut room);
+    replay(
+        &room[..m],
+        &mut pool,
+        &mut labels,
+        &mut values,
+        &mut words,
+        &mut scratch,
     );
 }

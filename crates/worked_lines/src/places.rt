@@ -1,38 +1,46 @@
-// The cases of incremental searches. The place is handed in as its number, and where it is left handed back.
-use crate::memory::LONGEST;
-use crate::memory::of_bytes;
-use crate::printing::number;
-use crate::printing::refused;
-use crate::printing::text;
-use crate::searches::spelled;
+// The cases of incremental searches. The place is handed in, and where it is left handed back.
+use crate::held::Held;
+use crate::spelling::spell;
+use replay::memory::LONGEST;
+use replay::printing::AT;
+use replay::printing::BOTH;
+use replay::printing::ERR;
+use replay::printing::MATCH;
+use replay::printing::NONE;
+use replay::printing::OK;
+use replay::printing::PREFIX;
+use replay::printing::number;
+use replay::printing::refused;
+use replay::printing::word;
 use trie::place::Answer;
+use trie::place::FollowMove;
 use trie::place::Followed;
 use trie::place::Gone;
+use trie::place::GotoMove;
 use trie::place::Measured;
 use trie::place::Place;
 use trie::place::Queried;
+use trie::place::QueryMove;
 use trie::place::Resumed;
 use trie::place::Valued;
 
-fn tell_place(node: u32) {
-    text(b" at");
+fn at(node: u32) -> u32 {
+    word(AT);
     number(node as u64);
+    node
 }
 
 fn tell(answer: Answer) {
     match answer {
-        Answer::Prefix => text(b" prefix"),
-        Answer::Match => text(b" match"),
-        Answer::PrefixAndMatch => text(b" both"),
+        Answer::Prefix => word(PREFIX),
+        Answer::Match => word(MATCH),
+        Answer::PrefixAndMatch => word(BOTH),
     }
 }
 
-fn resume(labels: &[u16], values: &[u32], words: &[u64], here: u32, node: u32) -> u32 {
-    match trie::place::resume(labels, values, words, node) {
-        Resumed::At(place) => {
-            tell_place(place.node);
-            place.node
-        }
+fn resumed(answer: Resumed, here: u32) -> u32 {
+    match answer {
+        Resumed::At(place) => at(place.node),
         Resumed::NotAnImage => {
             refused(6);
             here
@@ -45,107 +53,96 @@ fn resume(labels: &[u16], values: &[u32], words: &[u64], here: u32, node: u32) -
 }
 
 // The answer to a label, and the place after it.
-fn tell_queried(answer: Queried, node: u32) {
+fn queried(answer: Queried, node: u32) -> u32 {
     match answer {
         Queried::Found(found) => {
             tell(found);
-            tell_place(node);
+            at(node)
         }
         Queried::NoMatch => {
-            text(b" none");
-            tell_place(node);
+            word(NONE);
+            at(node)
         }
-        Queried::NotAnImage => refused(6),
-        Queried::BadPlace => refused(7),
+        Queried::NotAnImage => {
+            refused(6);
+            node
+        }
+        Queried::BadPlace => {
+            refused(7);
+            node
+        }
     }
 }
 
-fn peek(labels: &[u16], values: &[u32], words: &[u64], here: u32, label: u8) {
-    let answer = trie::place::peek(labels, values, words, Place { node: here }, label);
-    tell_queried(answer, here);
-}
-
-fn query(labels: &[u16], values: &[u32], words: &[u64], here: u32, label: u8) -> u32 {
-    let moved = trie::place::query_at(labels, values, words, here, label);
+fn query(moved: QueryMove) -> u32 {
     let answer = moved.answer;
-    tell_queried(answer, moved.node);
-    moved.node
+    queried(answer, moved.node)
 }
 
-fn tell_followed(answer: Followed, node: u32) {
+fn query_until(moved: FollowMove) -> u32 {
+    let answer = moved.answer;
+    let node = moved.node;
     match answer {
         Followed::Ok(found) => {
             tell(found);
-            tell_place(node);
+            at(node)
         }
         Followed::Err(index) => {
-            text(b" err");
+            word(ERR);
             number(index as u64);
-            tell_place(node);
+            at(node)
         }
-        Followed::NotAnImage => refused(6),
-        Followed::BadPlace => refused(7),
+        Followed::NotAnImage => {
+            refused(6);
+            node
+        }
+        Followed::BadPlace => {
+            refused(7);
+            node
+        }
     }
 }
 
-fn query_until(labels: &[u16], values: &[u32], words: &[u64], here: u32, typed: &[u8]) -> u32 {
-    let moved = trie::place::query_until_at(labels, values, words, here, typed);
+fn go_on(moved: GotoMove) -> u32 {
     let answer = moved.answer;
-    tell_followed(answer, moved.node);
-    moved.node
-}
-
-fn tell_gone(answer: Gone, node: u32) {
+    let node = moved.node;
     match answer {
         Gone::Ok(distance) => {
-            text(b" ok");
+            word(OK);
             number(distance as u64);
-            tell_place(node);
+            at(node)
         }
         Gone::Err(distance) => {
-            text(b" err");
+            word(ERR);
             number(distance as u64);
-            tell_place(node);
+            at(node)
         }
-        Gone::NotAnImage => refused(6),
-        Gone::BadPlace => refused(7),
+        Gone::NotAnImage => {
+            refused(6);
+            node
+        }
+        Gone::BadPlace => {
+            refused(7);
+            node
+        }
     }
 }
 
-fn go_on(labels: &[u16], values: &[u32], words: &[u64], here: u32) -> u32 {
-    let moved = trie::place::goto_at(labels, values, words, here);
-    let answer = moved.answer;
-    tell_gone(answer, moved.node);
-    moved.node
-}
-
-fn value(labels: &[u16], values: &[u32], words: &[u64], here: u32) {
-    match trie::place::value(labels, values, words, Place { node: here }) {
+fn valued(answer: Valued) {
+    match answer {
         Valued::Value(found) => number(found as u64),
-        Valued::NoValue => text(b" none"),
+        Valued::NoValue => word(NONE),
         Valued::NotAnImage => refused(6),
         Valued::BadPlace => refused(7),
     }
 }
 
-fn prefix_into(labels: &[u16], values: &[u32], words: &[u64], here: u32, space: &mut [u8]) {
-    let answer = trie::place::prefix(labels, values, words, Place { node: here }, space);
-    spelled(answer, space);
-}
-
-// The path, into so many bytes.
-fn prefix(labels: &[u16], values: &[u32], words: &[u64], here: u32, room: usize) {
-    let mut out = [0u8; LONGEST];
-    let n = of_bytes(&out, room);
-    prefix_into(labels, values, words, here, &mut out[..n]);
-}
-
 // The length of the path, then the path.
-fn whole_prefix(labels: &[u16], values: &[u32], words: &[u64], here: u32) {
-    match trie::place::prefix_len(labels, values, words, Place { node: here }) {
+fn whole_prefix(query: &[u8], labels: &[u16], values: &[u32], words: &[u64], held: Held) {
+    match trie::place::prefix_len(labels, values, words, Place { node: held.place }) {
         Measured::Length(length) => {
             number(length as u64);
-            prefix(labels, values, words, here, LONGEST);
+            spell(b'X', LONGEST, query, labels, values, words, held);
         }
         Measured::NotAnImage => refused(6),
         Measured::BadPlace => refused(7),
@@ -153,18 +150,31 @@ fn whole_prefix(labels: &[u16], values: &[u32], words: &[u64], here: u32) {
 }
 
 // The cases that only read the place; no other writes anything.
-fn read(letter: u8, n: u32, labels: &[u16], values: &[u32], words: &[u64], here: u32) {
+fn read(
+    letter: u8,
+    n: u32,
+    query: &[u8],
+    labels: &[u16],
+    values: &[u32],
+    words: &[u64],
+    held: Held,
+) {
+    let place = Place { node: held.place };
     match letter {
-        b't' => peek(labels, values, words, here, (n % 256) as u8),
-        b'v' => value(labels, values, words, here),
-        b'x' => whole_prefix(labels, values, words, here),
-        b'X' => prefix(labels, values, words, here, n as usize),
+        b't' => {
+            queried(
+                trie::place::peek(labels, values, words, place, (n % 256) as u8),
+                held.place,
+            );
+        }
+        b'v' => valued(trie::place::value(labels, values, words, place)),
+        b'x' => whole_prefix(query, labels, values, words, held),
         _ => (),
     }
 }
 
-// The answer to a case that is a place's; no other writes anything.
-pub fn answer(
+// The cases that move the place.
+fn moved(
     letter: u8,
     n: u32,
     typed: &[u8],
@@ -173,16 +183,31 @@ pub fn answer(
     words: &[u64],
     here: u32,
 ) -> u32 {
-    read(letter, n, labels, values, words, here);
     match letter {
-        b'r' => resume(labels, values, words, here, n),
+        b'r' => resumed(trie::place::resume(labels, values, words, n), here),
         b'R' => {
             number(n as u64);
             n
         }
-        b'a' => query(labels, values, words, here, (n % 256) as u8),
-        b'q' => query_until(labels, values, words, here, typed),
-        b'o' => go_on(labels, values, words, here),
+        b'a' => query(trie::place::query_at(labels, values, words, here, (n % 256) as u8)),
+        b'q' => query_until(trie::place::query_until_at(labels, values, words, here, typed)),
+        b'o' => go_on(trie::place::goto_at(labels, values, words, here)),
         _ => here,
     }
+}
+
+// The answer to a case that is a place's; no other writes anything.
+pub fn answer(
+    letter: u8,
+    n: u32,
+    query: &[u8],
+    labels: &[u16],
+    values: &[u32],
+    words: &[u64],
+    held: Held,
+) -> Held {
+    let mut after = held;
+    read(letter, n, query, labels, values, words, held);
+    after.place = moved(letter, n, query, labels, values, words, held.place);
+    after
 }

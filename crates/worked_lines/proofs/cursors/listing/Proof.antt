@@ -1,29 +1,28 @@
--- `worked_lines::cursors::listing` is safe and ends: the turns that are left fall. Assumes nothing.
-use Prim.Native.Nat.{_≤_}
+-- `worked_lines::cursors::listing` is safe and ends: each turn leaves one turn less. Assumes nothing.
 use borrow.Author.Needs.{needs}
 use Rattle.worked_lines.proofs.cursors.listing.Statement.{statement}
 use Rattle.worked_lines.proofs.cursors.listing.Tie as tie
 
 abbrev Inv-loop : tie.InvT-loop
-Inv-loop labels values words cursor₀ turns₀ cursor turns = turns ≤ turns₀
+Inv-loop labels values words query held₀ ended₀ turns₀ held ended turns = Unit {0}
 
 abbrev μ-loop : tie.MeasureT-loop
-μ-loop labels values words cursor₀ turns₀ cursor turns = turns
-
-listed-requires : tie.Need-listed-requires Inv-loop μ-loop
-listed-requires c κs = search needs
+μ-loop labels values words query held₀ ended₀ turns₀ held ended turns = turns
 
 loop-holds : tie.Need-loop-holds Inv-loop μ-loop
 loop-holds c = search needs
 
-is-open-requires : tie.Need-is-open-requires Inv-loop μ-loop
-is-open-requires c κs = search needs
-
-listed-requires-2 : tie.Need-listed-requires-2 Inv-loop μ-loop
-listed-requires-2 c κs = search needs
-
 sub-turns : tie.Need-sub-turns Inv-loop μ-loop
 sub-turns c = search needs
+
+word-requires : tie.Need-word-requires Inv-loop μ-loop
+word-requires c κs = search needs
+
+step-requires : tie.Need-step-requires Inv-loop μ-loop
+step-requires c κs = search needs
+
+spell-requires : tie.Need-spell-requires Inv-loop μ-loop
+spell-requires c κs = search needs
 
 loop-less : tie.Need-loop-less Inv-loop μ-loop
 loop-less c = search needs
@@ -31,11 +30,17 @@ loop-less c = search needs
 loop-again : tie.Need-loop-again Inv-loop μ-loop
 loop-again c = search needs
 
-listed-requires-3 : tie.Need-listed-requires-3 Inv-loop μ-loop
-listed-requires-3 c κs = search needs
-
 returns : tie.Need-returns Inv-loop μ-loop
 returns c = search needs
+
+loop-less-2 : tie.Need-loop-less-2 Inv-loop μ-loop
+loop-less-2 c = search needs
+
+loop-again-2 : tie.Need-loop-again-2 Inv-loop μ-loop
+loop-again-2 c = search needs
+
+returns-2 : tie.Need-returns-2 Inv-loop μ-loop
+returns-2 c = search needs
 
 pub listing-spec : {M : Type 1} → statement M
 listing-spec =
@@ -43,12 +48,14 @@ listing-spec =
     (tie.spec
     Inv-loop
     μ-loop
-    listed-requires
     loop-holds
-    is-open-requires
-    listed-requires-2
     sub-turns
+    word-requires
+    step-requires
+    spell-requires
     loop-less
     loop-again
-    listed-requires-3
-    returns)
+    returns
+    loop-less-2
+    loop-again-2
+    returns-2)

@@ -1,0 +1,14 @@
+-- `replay::memory::of_labels` meets its contract: the smaller of the two numbers counts within the slice. Assumes nothing.
+use Rattle.io.proofs.Counting.{counts}
+use native.Mathlib.Omega.{arith}
+use Rattle.replay.proofs.memory.of_labels.Statement.{statement}
+use Rattle.replay.proofs.memory.of_labels.Tie as tie
+
+returns : tie.Need-returns
+returns c = counts _ _ (omega arith)
+
+returns-2 : tie.Need-returns-2
+returns-2 c = counts _ _ (omega arith)
+
+pub of-labels-spec : {M : Type 1} → statement M
+of-labels-spec = tie.close (tie.spec returns returns-2)

@@ -1,95 +1,135 @@
 // Builds of pools whose images lie at the limits of a word and of the capacity, and builds with a buffer one short or one longer than needed:
 // what build answers, the four buffers afterwards, and what the image test says of the first three.
+//
+// The list `cases` has the letters n (these many words are the pool, reset), z (these many words are the pool, as they are), w (words stored
+// into its memory) and p (a push), as tools/oracle/README.md has them, which write nothing; and b and e, a build: the lengths of
+// labels, values, words and scratch, two bytes each, and a name. After e the last entry alone of each buffer is written.
+ghost use Prim.Native.Nat.{_≤_};
 use image::answers::Built;
 use image::answers::Checked;
-ghost use Prim.Native.Nat.{_≤_};
+use replay::lists::read_list;
+use replay::memory::LONGEST;
+use replay::memory::of_values;
+use replay::memory::show_labels;
+use replay::memory::show_values;
+use replay::memory::show_words;
+use replay::memory::store_values;
+use replay::printing::BAR;
+use replay::printing::byte;
+use replay::printing::number;
+use replay::printing::text;
+use replay::printing::word;
+use replay::text::bytes;
+use replay::text::hex;
+use replay::text::letter;
+use replay::text::line_at;
+use replay::text::number as number_of;
 
-fn say(text: &[u8]) {
-    io::write_all(1, text);
-}
+// Where the lengths begin in a line, and where the name does.
+const LENGTHS: usize = 2;
 
-fn say_number(n: u64) {
-    say(b" ");
-    io::print_decimal(1, n);
-}
+const NAME: usize = 19;
 
-fn say_built(answer: Built) {
+fn built(answer: Built) {
     match answer {
         Built::Nodes(n) => {
-            say_number(0);
-            say_number(n as u64);
+            number(0);
+            number(n as u64);
         }
-        Built::PoolTooSmall => say_number(1),
-        Built::NotAPool => say_number(2),
-        Built::OutTooSmall => say_number(5),
+        Built::PoolTooSmall => number(1),
+        Built::NotAPool => number(2),
+        Built::OutTooSmall => number(5),
     }
 }
 
-fn say_checked(answer: Checked) {
+fn checked(answer: Checked) {
     match answer {
-        Checked::Accepted => say_number(0),
-        Checked::NotAnImage => say_number(6),
+        Checked::Accepted => number(0),
+        Checked::NotAnImage => number(6),
     }
 }
 
-fn say_labels(labels: &[u16]) {
-    say(b" |");
-    let mut i = 0;
-    while i < labels.len() {
-        say_number(labels[i] as u64);
-        i += 1;
-    }
+fn show(labels: &[u16], values: &[u32], words: &[u64], scratch: &[u32]) {
+    word(BAR);
+    show_labels(labels, 0, u64::MAX);
+    word(BAR);
+    show_values(values, 0, u64::MAX);
+    word(BAR);
+    show_words(words, 0, u64::MAX);
+    word(BAR);
+    show_values(scratch, 0, u64::MAX);
 }
 
-fn say_numbers(numbers: &[u32]) {
-    say(b" |");
-    let mut i = 0;
-    while i < numbers.len() {
-        say_number(numbers[i] as u64);
-        i += 1;
+// Where the last of so many entries is.
+fn last(count: usize) -> usize {
+    if count == 0 {
+        return 0;
     }
+    count - 1
 }
 
-fn say_words(words: &[u64]) {
-    say(b" |");
-    let mut i = 0;
-    while i < words.len() {
-        say_number(words[i]);
-        i += 1;
-    }
+fn show_ends(labels: &[u16], values: &[u32], words: &[u64], scratch: &[u32]) {
+    word(BAR);
+    show_labels(labels, last(labels.len()), 1);
+    show_values(values, last(values.len()), 1);
+    show_words(words, last(words.len()), 1);
+    show_values(scratch, last(scratch.len()), 1);
 }
 
-// A line: the name, what build answers, the four buffers, and what the image test answers.
-fn case(
-    name: &[u8],
+// What is written behind the answer of build.
+fn told(line: &[u8], labels: &[u16], values: &[u32], words: &[u64], scratch: &[u32]) {
+    if letter(line) == b'e' {
+        show_ends(labels, values, words, scratch);
+    } else {
+        show(labels, values, words, scratch);
+    }
+    word(BAR);
+    checked(image::accept(labels, values, words));
+    byte(b'\n');
+}
+
+fn build(
+    line: &[u8],
     pool: &[u32],
     labels: &mut [u16],
     values: &mut [u32],
     words: &mut [u64],
     scratch: &mut [u32],
 ) {
-    say(name);
-    say(b":");
-    say_built(image::build(pool, labels, values, words, scratch));
-    say_labels(labels);
-    say_numbers(values);
-    say_words(words);
-    say_numbers(scratch);
-    say(b" |");
-    say_checked(image::accept(labels, values, words));
-    say(b"\n");
+    text(line_at(line, NAME));
+    byte(b':');
+    built(image::build(pool, labels, values, words, scratch));
+    told(line, labels, values, words, scratch);
 }
 
-// The same with buffers of these lengths, all of their bits ones.
-fn sized(name: &[u8], pool: &[u32], labels: usize, values: usize, words: usize, scratch: usize)
-    requires { ⌜ (labels ≤ 32) × (values ≤ 32) × (words ≤ 4) × (scratch ≤ 32) ⌝ }
+// What the buffers hold before: ones in all of their bits, but where the last entries alone are written.
+fn filling(line: &[u8]) -> u64 {
+    if letter(line) == b'e' {
+        return 9;
+    }
+    u64::MAX
+}
+
+// The smaller of two numbers.
+fn at_most(n: u64, most: usize) -> usize
+    ensures { λ r. ⌜ r ≤ most ⌝ }
 {
-    let mut label_room = [65535u16; 32];
-    let mut value_room = [4294967295u32; 32];
-    let mut word_room = [18446744073709551615u64; 4];
-    let mut scratch_room = [4294967295u32; 32];
-    case(
-        name,
+    if (most as u64) < n { most } else { n as usize }
+}
+
+// A build into buffers of these lengths.
+fn sized(line: &[u8], pool: &[u32], labels: usize, values: usize, words: usize, scratch: usize)
+    requires { ⌜ (labels ≤ 4096) × (values ≤ 4096) × (words ≤ 129) × (scratch ≤ 4096) ⌝ }
+{
+    let fill = filling(line);
+    let short = (fill % 65536) as u16;
+    let middle = (fill % 4294967296) as u32;
+    let mut label_room = [short; 4096];
+    let mut value_room = [middle; 4096];
+    let mut word_room = [fill; 129];
+    let mut scratch_room = [middle; 4096];
+    build(
+        line,
         pool,
         &mut label_room[..labels],
         &mut value_room[..values],
@@ -98,135 +138,59 @@ fn sized(name: &[u8], pool: &[u32], labels: usize, values: usize, words: usize, 
     );
 }
 
-// The five keys of `src/map/trie.rs`: 18 nodes, 39 bits.
-fn fruit_pool(pool: &mut [u32]) {
-    pool::reset(pool);
-    pool::push(pool, b"a", 0);
-    pool::push(pool, b"app", 1);
-    pool::push(pool, b"apple", 2);
-    pool::push(pool, b"better", 3);
-    pool::push(pool, b"application", 4);
-}
-
-fn fruit() {
-    let mut pool = [9u32; 95];
-    fruit_pool(&mut pool);
-    sized(b"five keys", &pool, 18, 18, 1, 18);
-    sized(b"longer buffers", &pool, 19, 20, 3, 21);
-    sized(b"labels one short", &pool, 17, 18, 1, 18);
-    sized(b"values one short", &pool, 18, 17, 1, 18);
-    sized(b"words one short", &pool, 18, 18, 0, 18);
-    sized(b"scratch one short", &pool, 18, 18, 1, 17);
-}
-
-// The pushes of A and of B, and the empty map.
-fn pairs() {
-    let mut pool = [9u32; 20];
-    pool::reset(&mut pool);
-    sized(b"empty map", &pool, 0, 0, 1, 0);
-    sized(b"empty map, no word", &pool, 0, 0, 0, 0);
-    pool::push(&mut pool, b"ab", 7);
-    pool::push(&mut pool, b"b", 3);
-    sized(b"A", &pool, 3, 3, 1, 3);
-    pool::reset(&mut pool);
-    pool::push(&mut pool, b"b", 3);
-    pool::push(&mut pool, b"ab", 7);
-    sized(b"B", &pool, 3, 3, 1, 3);
-}
-
-// 30 nodes have 63 bits, 31 have 65.
-fn word_limits() {
-    let key = [97u8; 31];
-    let mut pool = [9u32; 160];
-    pool::reset(&mut pool);
-    pool::push(&mut pool, &key[..30], 5);
-    sized(b"30 nodes", &pool, 30, 30, 1, 30);
-    pool::push(&mut pool, &key, 6);
-    sized(b"31 nodes, one word", &pool, 31, 31, 1, 31);
-    sized(b"31 nodes", &pool, 31, 31, 2, 31);
-}
-
-fn no_pools() {
-    sized(b"four words", &[0u32; 4], 0, 0, 0, 0);
-    sized(b"a record on no chain", &[1u32; 10], 0, 0, 0, 0);
-}
-
-fn last_label(labels: &[u16]) -> u16 {
-    if labels.len() == 0 {
-        return 0;
-    }
-    labels[labels.len() - 1]
-}
-
-fn last_number(numbers: &[u32]) -> u32 {
-    if numbers.len() == 0 {
-        return 0;
-    }
-    numbers[numbers.len() - 1]
-}
-
-fn last_word(words: &[u64]) -> u64 {
-    if words.len() == 0 {
-        return 0;
-    }
-    words[words.len() - 1]
-}
-
-// A line as above, with the last entry alone of each buffer.
-fn ends(
-    name: &[u8],
-    pool: &[u32],
-    labels: &mut [u16],
-    values: &mut [u32],
-    words: &mut [u64],
-    scratch: &mut [u32],
-) {
-    say(name);
-    say(b":");
-    say_built(image::build(pool, labels, values, words, scratch));
-    say(b" |");
-    say_number(last_label(labels) as u64);
-    say_number(last_number(values) as u64);
-    say_number(last_word(words));
-    say_number(last_number(scratch) as u64);
-    say(b" |");
-    say_checked(image::accept(labels, values, words));
-    say(b"\n");
-}
-
-// 4,096 nodes have 8,195 bits in 129 words.
-fn capacity_limit() {
-    let key = [97u8; 4096];
-    let mut pool = [9u32; 20485];
-    pool::reset(&mut pool);
-    pool::push(&mut pool, &key, 6);
-    let mut labels = [9u16; 4096];
-    let mut values = [9u32; 4096];
-    let mut scratch = [9u32; 4096];
-    let mut few = [9u64; 128];
-    ends(
-        b"4096 nodes, 128 words",
-        &pool,
-        &mut labels,
-        &mut values,
-        &mut few,
-        &mut scratch,
+// The same, with the lengths that the line says.
+fn case(line: &[u8], pool: &[u32]) {
+    let lengths = hex(line, LENGTHS, 16);
+    sized(
+        line,
+        pool,
+        at_most(lengths >> 48, 4096),
+        at_most(lengths >> 32 & 65535, 4096),
+        at_most(lengths >> 16 & 65535, 129),
+        at_most(lengths & 65535, 4096),
     );
-    let mut words = [9u64; 129];
-    ends(
-        b"4096 nodes",
-        &pool,
-        &mut labels,
-        &mut values,
-        &mut words,
-        &mut scratch,
-    );
+}
+
+fn push(line: &[u8], pool: &mut [u32]) {
+    let mut space = [0u8; LONGEST];
+    let n = bytes(line, &mut space);
+    pool::push(pool, &space[..n], number_of(line));
+}
+
+// A case, with as many words of the memory as are the pool; how many are from then on.
+fn answer(line: &[u8], memory: &mut [u32], words: usize) -> usize {
+    let n = number_of(line) as usize;
+    let size = match letter(line) {
+        b'n' | b'z' => n,
+        _ => words,
+    };
+    let p = of_values(memory, size);
+    match letter(line) {
+        b'n' => {
+            pool::reset(&mut memory[..p]);
+        }
+        b'p' => push(line, &mut memory[..p]),
+        b'w' => store_values(memory, n, line),
+        b'b' | b'e' => case(line, &memory[..p]),
+        _ => (),
+    }
+    size
+}
+
+fn replay(list: &[u8], memory: &mut [u32]) {
+    let mut words = 0;
+    let mut from = 0;
+    while from < list.len() {
+        let line = line_at(list, from);
+        from += line.len();
+        from += 1;
+        words = answer(line, memory, words);
+    }
 }
 
 fn main() {
-    fruit();
-    pairs();
-    word_limits();
-    no_pools();
-    capacity_limit();
+    let mut room = [0u8; 16384];
+    let mut memory = [9u32; 20485];
+    let n = read_list(b"cases", &mut room);
+    replay(&room[..n], &mut memory);
 }

@@ -6,27 +6,24 @@ mod places;
 mod searches;
 mod spelling;
 
-ghost use Rattle.io.specs.Counts.{Counts};
 use held::Held;
 use replay::images;
+use replay::lists::read_lists;
 use replay::memory::LONGEST;
 use replay::memory::Lent;
-use replay::memory::lend;
-use replay::memory::lend_built;
 use replay::memory::nothing;
 use replay::memory::of_labels;
 use replay::memory::of_values;
 use replay::memory::of_words;
-use replay::pools;
 use replay::printing::byte;
-use replay::printing::head;
+use replay::remember;
 use replay::text;
 use replay::text::letter;
 use replay::text::line_at;
 use replay::text::number;
 
-// The longest that a list is.
-const LIST_BYTES: usize = 327680;
+// The longest that both lists are.
+const LIST_BYTES: usize = 655360;
 
 // The cases that read the image that is lent.
 fn read(
@@ -46,11 +43,27 @@ fn read(
     cursors::answer(letter, n, line, query, labels, values, words, moved)
 }
 
-// The cases that search, over as much of the memory as is lent, and the one that reads all of it.
-fn search(
+// The case that sets a value, over as much of the memory as is lent.
+fn set(line: &[u8], labels: &[u16], values: &mut [u32], words: &[u64], lent: Lent) {
+    let mut space = [0u8; LONGEST];
+    let k = text::bytes(line, &mut space);
+    let a = of_labels(labels, lent.labels);
+    let b = of_values(values, lent.values);
+    let c = of_words(words, lent.words);
+    searches::set_value(
+        number(line),
+        &space[..k],
+        &labels[..a],
+        &mut values[..b],
+        &words[..c],
+    );
+}
+
+// The other cases that search, and the one that reads all of the memory.
+fn look(
     line: &[u8],
     labels: &[u16],
-    values: &mut [u32],
+    values: &[u32],
     words: &[u64],
     scratch: &[u32],
     lent: Lent,
@@ -62,15 +75,10 @@ fn search(
         return held;
     }
     let mut space = [b'a'; LONGEST];
-    let n = number(line);
-    let k = text::key(letter, n, line, &mut space);
+    let k = text::key(letter, number(line), line, &mut space);
     let a = of_labels(labels, lent.labels);
     let b = of_values(values, lent.values);
     let c = of_words(words, lent.words);
-    if letter == b's' {
-        searches::set_value(n, &space[..k], &labels[..a], &mut values[..b], &words[..c]);
-        return held;
-    }
     read(
         line,
         &space[..k],
@@ -81,41 +89,20 @@ fn search(
     )
 }
 
-// What is kept from case to case besides the memory.
-struct State {
+fn search(
+    line: &[u8],
+    labels: &[u16],
+    values: &mut [u32],
+    words: &[u64],
+    scratch: &[u32],
     lent: Lent,
     held: Held,
-}
-
-fn answer(
-    line: &[u8],
-    pool: &mut [u32],
-    labels: &mut [u16],
-    values: &mut [u32],
-    words: &mut [u64],
-    scratch: &mut [u32],
-    state: State,
-) -> State {
-    let letter = letter(line);
-    let n = number(line);
-    head(line);
-    let asked = lend(letter, n, state.lent);
-    pools::answer(letter, n, line, pool, asked.pool);
-    let built = images::answer(
-        letter,
-        n,
-        line,
-        pool,
-        labels,
-        values,
-        words,
-        scratch,
-        asked.pool,
-    );
-    let lent = lend_built(built, asked);
-    let held = search(line, labels, values, words, scratch, lent, state.held);
-    byte(b'\n');
-    State { lent, held }
+) -> Held {
+    if letter(line) == b's' {
+        set(line, labels, values, words, lent);
+        return held;
+    }
+    look(line, labels, values, words, scratch, lent, held)
 }
 
 fn replay(
@@ -126,31 +113,17 @@ fn replay(
     words: &mut [u64],
     scratch: &mut [u32],
 ) {
-    let mut state = State {
-        lent: nothing(),
-        held: held::nothing(),
-    };
+    let mut lent = nothing();
+    let mut held = held::nothing();
     let mut from = 0;
     while from < list.len() {
         let line = line_at(list, from);
         from += line.len();
         from += 1;
-        state = answer(line, pool, labels, values, words, scratch, state);
+        lent = remember(line, pool, labels, values, words, scratch, lent);
+        held = search(line, labels, values, words, scratch, lent, held);
+        byte(b'\n');
     }
-}
-
-// A list into the front of the room, and how long it is.
-fn read_list(name: &[u8], room: &mut [u8]) -> usize
-    ensures { λ r. ⌜ Counts r (now (room .exit)) ⌝ }
-{
-    let fd = os::open_read(name);
-    if fd < 0 {
-        os::fail(name);
-        return 0;
-    }
-    let n = io::read_full(fd, room);
-    libc::close(fd);
-    n
 }
 
 fn main() {
@@ -160,18 +133,9 @@ fn main() {
     let mut values = [0u32; 4100];
     let mut words = [0u64; 130];
     let mut scratch = [0u32; 4096];
-    let n = read_list(b"rust_cases", &mut room);
+    let n = read_lists(b"rust_cases", b"document_cases", &mut room);
     replay(
         &room[..n],
-        &mut pool,
-        &mut labels,
-        &mut values,
-        &mut words,
-        &mut scratch,
-    );
-    let m = read_list(b"document_cases", &mut room);
-    replay(
-        &room[..m],
         &mut pool,
         &mut labels,
         &mut values,

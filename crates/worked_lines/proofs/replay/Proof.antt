@@ -1,13 +1,13 @@
 -- `worked_lines::replay` is safe and ends: a line lies within the list, and the next begins behind it. Assumes nothing.
 use Prim.Native.Nat.{_-_}
-use mathlib.Core.Path.{_≡_}
+use mathlib.Core.Path.{_≡_, _∙_}
 use lib.ListN.{length}
 use borrow.Author.Needs.{needs}
 use Rattle.worked_lines.proofs.replay.Statement.{statement}
 use Rattle.worked_lines.proofs.replay.Tie as tie
 
 abbrev Inv-loop : tie.InvT-loop
-Inv-loop list pool₀ labels₀ values₀ words₀ scratch₀ state₀ from₀ pool labels values words scratch state from =
+Inv-loop list pool₀ labels₀ values₀ words₀ scratch₀ lent₀ held₀ from₀ pool labels values words scratch lent held from =
     (length pool ≡ length pool₀) ×
     (length labels ≡ length labels₀) ×
     (length values ≡ length values₀) ×
@@ -15,7 +15,7 @@ Inv-loop list pool₀ labels₀ values₀ words₀ scratch₀ state₀ from₀ p
     (length scratch ≡ length scratch₀)
 
 abbrev μ-loop : tie.MeasureT-loop
-μ-loop list pool₀ labels₀ values₀ words₀ scratch₀ state₀ from₀ pool labels values words scratch state from =
+μ-loop list pool₀ labels₀ values₀ words₀ scratch₀ lent₀ held₀ from₀ pool labels values words scratch lent held from =
     length list - from
 
 nothing-requires : tie.Need-nothing-requires Inv-loop μ-loop
@@ -36,14 +36,28 @@ add-from c = search needs
 add-from-2 : tie.Need-add-from-2 Inv-loop μ-loop
 add-from-2 c = search needs
 
-answer-requires : tie.Need-answer-requires Inv-loop μ-loop
-answer-requires c κs = search needs
+remember-requires : tie.Need-remember-requires Inv-loop μ-loop
+remember-requires c κs = search needs
+
+search-requires : tie.Need-search-requires Inv-loop μ-loop
+search-requires c κs = search needs
+
+byte-requires : tie.Need-byte-requires Inv-loop μ-loop
+byte-requires c κs = search needs
 
 loop-less : tie.Need-loop-less Inv-loop μ-loop
 loop-less c = search needs
 
 loop-again : tie.Need-loop-again Inv-loop μ-loop
-loop-again c = search needs
+loop-again c =
+    let r = c .before .before .before .before .before .before .before .before .before .before .before .before .before .before .before .before .before .before .remember in
+    let held = c .before .before .before .before .before .before .before .before .before .before .before .before .before .before .before .before .before .before .before .before .before .before .before .before .before .before .loop .inv in (
+      r .kept .1 .0 ∙ held .0,
+      r .kept .1 .1 .0 ∙ held .1,
+      c .before .before .before .search .kept .1 .1 .0 ∙ r .kept .1 .1 .1 .0 ∙ held .2,
+      r .kept .1 .1 .1 .1 .0 ∙ held .3,
+      r .kept .1 .1 .1 .1 .1 .0 ∙ held .4,
+    )
 
 same-length : tie.Need-same-length Inv-loop μ-loop
 same-length c = search needs
@@ -75,7 +89,9 @@ replay-spec =
     line-at-requires
     add-from
     add-from-2
-    answer-requires
+    remember-requires
+    search-requires
+    byte-requires
     loop-less
     loop-again
     same-length

@@ -1,6 +1,18 @@
 // Places held in locals and lent to the moves: 01's lines on places, the places that belong to no image, and a place taken to another image.
+//
+// A line of the list `cases` has a letter, q for `query`, u for `query_until`, g for `goto_longest_prefix`; the place's node; an image of at most three
+// nodes, as how many there are, their labels, their values and the word of bits; and the name of the case, which ends with what is asked. The images are
+// the empty map's; A's ("ab" 7, "b" 3); that of "a" 1, "ab" 2, where "a" has the place that it has in A; and the last with one bit too many, which is none.
 ghost use Rattle.image.specs.Meaning.{lent};
 ghost use Rattle.trie.specs.Incremental.{placeAt, QueryPromise, FollowPromise, GotoPromise};
+use replay::lists::read_list;
+use replay::memory::of_labels;
+use replay::memory::of_values;
+use replay::printing::text;
+use replay::text::hex;
+use replay::text::letter;
+use replay::text::line_at;
+use replay::text::number as number_of;
 use trie::place::Answer;
 use trie::place::FollowMove;
 use trie::place::Followed;
@@ -12,6 +24,21 @@ use trie::place::QueryMove;
 use trie::place::goto_longest_prefix;
 use trie::place::query;
 use trie::place::query_until;
+
+// Where the image's parts and the name stand in a line, and what is asked of `query` and of `query_until`.
+const COUNT: usize = 11;
+
+const LABELS: usize = 13;
+
+const VALUES: usize = 26;
+
+const WORD: usize = 51;
+
+const NAME: usize = 68;
+
+const LABEL: usize = 74;
+
+const TYPED: usize = 80;
 
 // Lends a place at a node to `query`.
 fn query_from(labels: &[u16], values: &[u32], words: &[u64], node: u32, label: u8) -> QueryMove
@@ -59,124 +86,117 @@ fn goto_from(labels: &[u16], values: &[u32], words: &[u64], node: u32) -> GotoMo
     }
 }
 
-fn say(text: &[u8]) {
-    io::write_all(1, text);
+fn number(n: u64) {
+    io::print_decimal(1, n);
 }
 
-fn say_answer(answer: Answer) {
+fn tell(answer: Answer) {
     if answer.is_prefix() {
-        say(b" prefix");
+        text(b" prefix");
     }
     if answer.is_match() {
-        say(b" match");
+        text(b" match");
     }
 }
 
-fn say_place(node: u32) {
-    say(b", place ");
-    io::print_decimal(1, node as u64);
-    say(b"\n");
-}
-
-// A line of each move: what it is asked and what it answers, and the place afterwards.
-fn query_line(labels: &[u16], values: &[u32], words: &[u64], node: u32, label: u8) {
-    let m = query_from(labels, values, words, node, label);
-    let asked = [label];
-    say(b"query ");
-    say(&asked);
-    say(b":");
-    let answer = m.answer;
+// What each move answers, and the place afterwards.
+fn queried(moved: QueryMove) -> u32 {
+    let answer = moved.answer;
     match answer {
-        Queried::Found(a) => say_answer(a),
-        Queried::NoMatch => say(b" no match"),
-        Queried::NotAnImage => say(b" 6"),
-        Queried::BadPlace => say(b" 7"),
+        Queried::Found(found) => tell(found),
+        Queried::NoMatch => text(b" no match"),
+        Queried::NotAnImage => text(b" 6"),
+        Queried::BadPlace => text(b" 7"),
     }
-    say_place(m.node);
+    moved.node
 }
 
-fn until_line(labels: &[u16], values: &[u32], words: &[u64], node: u32, text: &[u8]) {
-    let m = query_until_from(labels, values, words, node, text);
-    say(b"query_until ");
-    say(text);
-    say(b":");
-    let answer = m.answer;
+fn followed(moved: FollowMove) -> u32 {
+    let answer = moved.answer;
     match answer {
-        Followed::Ok(a) => {
-            say(b" Ok");
-            say_answer(a);
+        Followed::Ok(found) => {
+            text(b" Ok");
+            tell(found);
         }
-        Followed::Err(j) => {
-            say(b" Err ");
-            io::print_decimal(1, j as u64);
+        Followed::Err(index) => {
+            text(b" Err ");
+            number(index as u64);
         }
-        Followed::NotAnImage => say(b" 6"),
-        Followed::BadPlace => say(b" 7"),
+        Followed::NotAnImage => text(b" 6"),
+        Followed::BadPlace => text(b" 7"),
     }
-    say_place(m.node);
+    moved.node
 }
 
-fn goto_line(labels: &[u16], values: &[u32], words: &[u64], node: u32) {
-    let m = goto_from(labels, values, words, node);
-    say(b"goto:");
-    let answer = m.answer;
+fn gone(moved: GotoMove) -> u32 {
+    let answer = moved.answer;
     match answer {
-        Gone::Ok(d) => {
-            say(b" Ok ");
-            io::print_decimal(1, d as u64);
+        Gone::Ok(distance) => {
+            text(b" Ok ");
+            number(distance as u64);
         }
-        Gone::Err(d) => {
-            say(b" Err ");
-            io::print_decimal(1, d as u64);
+        Gone::Err(distance) => {
+            text(b" Err ");
+            number(distance as u64);
         }
-        Gone::NotAnImage => say(b" 6"),
-        Gone::BadPlace => say(b" 7"),
+        Gone::NotAnImage => text(b" 6"),
+        Gone::BadPlace => text(b" 7"),
     }
-    say_place(m.node);
+    moved.node
 }
 
-// The empty map.
-fn empty() {
-    let root = Place::ROOT;
-    let words = [1u64];
-    goto_line(&[], &[], &words, root.node);
-    query_line(&[], &[], &words, root.node, 97);
-    goto_line(&[], &[], &words, 2);
+fn answer(line: &[u8], labels: &[u16], values: &[u32], words: &[u64]) -> u32 {
+    let node = number_of(line);
+    match letter(line) {
+        b'q' => queried(query_from(labels, values, words, node, letter(line_at(line, LABEL)))),
+        b'u' => followed(query_until_from(labels, values, words, node, line_at(line, TYPED))),
+        _ => gone(goto_from(labels, values, words, node)),
+    }
 }
 
-// A: "ab" 7, "b" 3.
-fn map_a() {
-    let root = Place::ROOT;
-    let labels = [97u16, 354, 354];
-    let values = [0u32, 3, 7];
-    let words = [45u64];
-    goto_line(&labels, &values, &words, root.node);
-    goto_line(&labels, &values, &words, 2);
-    until_line(&labels, &values, &words, root.node, b"ax");
-    until_line(&labels, &values, &words, root.node, b"ab");
-    until_line(&labels, &values, &words, 2, b"");
-    query_line(&labels, &values, &words, root.node, 97);
-    query_line(&labels, &values, &words, root.node, 98);
-    query_line(&labels, &values, &words, 2, 97);
-    query_line(&labels, &values, &words, 0, 97);
-    until_line(&labels, &values, &words, 5, b"a");
-    goto_line(&labels, &values, &words, 4294967295);
+fn label(line: &[u8], at: usize) -> u16 {
+    (hex(line, at, 4) % 65536) as u16
 }
 
-// "a" 1, "ab" 2: the place of "a" in A is the place of "a" here. With one bit too many it is no image, and that comes before a bad place.
-fn nested() {
-    let labels = [353u16, 354];
-    let values = [1u32, 2];
-    let words = [21u64];
-    goto_line(&labels, &values, &words, 2);
-    query_line(&labels, &values, &words, 1, 97);
-    goto_line(&labels, &values, &words, 4);
-    let damaged = [23u64];
-    goto_line(&labels, &values, &damaged, 0);
+fn value(line: &[u8], at: usize) -> u32 {
+    (hex(line, at, 8) % 4294967296) as u32
+}
+
+// A line of the list: the name, what the move answers, and the place afterwards.
+fn case(line: &[u8]) {
+    let labels = [
+        label(line, LABELS),
+        label(line, LABELS + 4),
+        label(line, LABELS + 8),
+    ];
+    let values = [
+        value(line, VALUES),
+        value(line, VALUES + 8),
+        value(line, VALUES + 16),
+    ];
+    let words = [hex(line, WORD, 16)];
+    let n = of_labels(&labels, hex(line, COUNT, 1) as usize);
+    let m = of_values(&values, hex(line, COUNT, 1) as usize);
+    text(line_at(line, NAME));
+    text(b":");
+    let node = answer(line, &labels[..n], &values[..m], &words);
+    text(b", place ");
+    number(node as u64);
+    text(b"\n");
+}
+
+fn replay(list: &[u8]) {
+    let mut from = 0;
+    while from < list.len() {
+        let line = line_at(list, from);
+        from += line.len();
+        from += 1;
+        case(line);
+    }
 }
 
 fn main() {
-    empty();
-    map_a();
-    nested();
+    let mut room = [0u8; 4096];
+    let n = read_list(b"cases", &mut room);
+    replay(&room[..n]);
 }

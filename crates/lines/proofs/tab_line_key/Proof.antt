@@ -12,7 +12,7 @@ tab-line-requires : tie.Need-tab-line-requires
 tab-line-requires c κs = search needs
 
 enum-known-key-len : tie.Need-enum-known-key-len
-enum-known-key-len c = search needs
+enum-known-key-len c = c .match .keys1
 
 slice-aggregate-result : tie.Need-slice-aggregate-result
 slice-aggregate-result c =
@@ -21,7 +21,7 @@ slice-aggregate-result c =
     sym (length-take-le _ _ (part .1))
 
 enum-told : tie.Need-enum-told
-enum-told c = search needs
+enum-told c = c .match .keys2
 
 slice-aggregate-result-2 : tie.Need-slice-aggregate-result-2
 slice-aggregate-result-2 c = search needs

@@ -38,10 +38,10 @@ digits-in-requires : tie.Need-digits-in-requires
 digits-in-requires c κs = search needs
 
 enum-known-value : tie.Need-enum-known-value
-enum-known-value c = search needs
+enum-known-value c = c .match .keys1
 
 enum-told : tie.Need-enum-told
-enum-told c = search needs
+enum-told c = c .match .keys2
 
 returns-4 : tie.Need-returns-4
 returns-4 c = sym (numberIn-other _ (digitsIn-other _ (sym (c .before .before .digits-in .ensures) ∙ c .enum-told .given .1)))

@@ -20,10 +20,10 @@ zero-at-requires : tie.Need-zero-at-requires
 zero-at-requires c κs = search needs
 
 enum-known-p : tie.Need-enum-known-p
-enum-known-p c = search needs
+enum-known-p c = c .match .keys1
 
 enum-told : tie.Need-enum-told
-enum-told c = search needs
+enum-told c = c .match .keys2
 
 returns : tie.Need-returns
 returns c =
@@ -56,7 +56,7 @@ zero-from-requires : tie.Need-zero-from-requires
 zero-from-requires c κs = search needs
 
 enum-known-q : tie.Need-enum-known-q
-enum-known-q c = search needs
+enum-known-q c = c .match2 .keys1
 
 -- the zero after it, of what the second search answered
 next : (c : tie.After-zero-from) (t : Spot) → c .zero-from .result ≡ t
@@ -74,7 +74,7 @@ sub-t12 c =
     omega (arith, children-to-zero _ (bit-small (b .before .before .before .before .before .before .args .words .now)) _ _ _ (c .before .q .given .0 .0) (here (b .before)) (next b _ (c .before .q .given .1)) .0)
 
 enum-told-2 : tie.Need-enum-told-2
-enum-told-2 c = search needs
+enum-told-2 c = c .match2 .keys2
 
 sub-t13 : tie.Need-sub-t13
 sub-t13 c = omega (arith, stands (c .before .before .before))

@@ -16,7 +16,7 @@ one-at-requires : tie.Need-one-at-requires
 one-at-requires c κs = search needs
 
 enum-known-p : tie.Need-enum-known-p
-enum-known-p c = search needs
+enum-known-p c = c .match .keys1
 
 -- where the m-th one was found
 here : (c : tie.After-known-told)
@@ -37,7 +37,7 @@ sub-t8 c =
     omega (arith, stands c, ones-zeros (bit ws) (bit-small ws) (c .before .p .given .0 .0))
 
 enum-told : tie.Need-enum-told
-enum-told c = search needs
+enum-told c = c .match .keys2
 
 returns : tie.Need-returns
 returns c =

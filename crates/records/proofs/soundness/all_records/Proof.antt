@@ -24,10 +24,10 @@ record-and-chain-requires : tie.Need-record-and-chain-requires Inv-loop μ-loop
 record-and-chain-requires c κs = search needs
 
 enum-known-k : tie.Need-enum-known-k Inv-loop μ-loop
-enum-known-k c = search needs
+enum-known-k c = c .match .keys1
 
 enum-told : tie.Need-enum-told Inv-loop μ-loop
-enum-told c = search needs
+enum-told c = c .match .keys2
 
 returns : tie.Need-returns Inv-loop μ-loop
 returns c = sym (ap noneLeft (pass-broken _ _ _ (suc (c .before .before .before .before .loop .c)) _ (omega arith) (pass-more _ _ _ _ _ _ (c .before .before .before .before .loop .inv .1) (sym (c .before .before .record-and-chain .ensures) ∙ c .enum-told .given .1))))

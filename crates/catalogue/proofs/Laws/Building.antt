@@ -1,8 +1,7 @@
 -- Laws of the image that is lent after a build: the fronts of the three buffers are the image of the pool's map.
 --
 --     word-bounded      a pool of 32-bit words is bounded
---     map-image         the image of a catalogue that has few prefixes is a map's image
---     built-image       what an accepted build of a catalogue leaves
+--     LentImage, lent-image    what is lent of the buffers after an accepted build of a catalogue
 --     build-accepts     a sound pool of the program's length is built in buffers of its lengths
 -- Assumes nothing.
 use mathlib.Core.Path.{_≡_, refl, sym, ap, subst, _∙_}
@@ -17,7 +16,7 @@ use Rattle.keymap.specs.Limits.{valueLimit, mostRecords}
 use Rattle.keymap.specs.Bits.{wordsFor, pack}
 use Rattle.keymap.specs.Map.{Map, Catalogue}
 use Rattle.keymap.specs.Prefixes.{prefixes}
-use Rattle.keymap.specs.Image.{Image, bitsFor, imageLabels, imageValues, imageBits, image}
+use Rattle.keymap.specs.Image.{bitsFor, imageLabels, imageValues, imageBits, image}
 use Rattle.keymap.specs.Decode.{imageMap}
 use Rattle.keymap.specs.Refusals.{Refusal, refusalNumber}
 use Rattle.keymap.proofs.Laws.Bits.{length-pack}
@@ -42,7 +41,7 @@ pub word-bounded : (p : Pool) → ((j : ℕ) → getD p j 0 < valueLimit) → Bo
 unfolding word
 word-bounded p h = λ c k. h _
 
-pub map-image : (m : Map) → Catalogue m → length (prefixes m) ≤ mostRecords → MapImage (image m)
+map-image : (m : Map) → Catalogue m → length (prefixes m) ≤ mostRecords → MapImage (image m)
 unfolding image
 map-image m c few =
     let back : imageMap (image m) ≡ m = imageMap-image m c in
@@ -74,16 +73,15 @@ front xs ys after n e fits is = (
 )
 
 -- n labels, n values and the words of 2n + 3 bits
-pub record BuiltImage (p : Pool) (ls vs ws qs : List ℕ) (n : ℕ) : Type 0 where
-  pub labels-in : n ≤ length (buildLabels p ls vs ws qs)
-  pub values-in : n ≤ length (buildValues p ls vs ws qs)
-  pub words-in : (2 * n + 66) / 64 ≤ length (buildWords p ls vs ws qs)
-  pub shows : lent (take n (buildLabels p ls vs ws qs)) (take n (buildValues p ls vs ws qs)) (take ((2 * n + 66) / 64) (buildWords p ls vs ws qs)) ≡ image (poolMap p)
-  pub few : n ≤ mostRecords
-  pub is-map : MapImage (image (poolMap p))
-  pub map-back : imageMap (image (poolMap p)) ≡ poolMap p
+record BuiltImage (p : Pool) (ls vs ws qs : List ℕ) (n : ℕ) : Type 0 where
+  labels-in : n ≤ length (buildLabels p ls vs ws qs)
+  values-in : n ≤ length (buildValues p ls vs ws qs)
+  words-in : (2 * n + 66) / 64 ≤ length (buildWords p ls vs ws qs)
+  shows : lent (take n (buildLabels p ls vs ws qs)) (take n (buildValues p ls vs ws qs)) (take ((2 * n + 66) / 64) (buildWords p ls vs ws qs)) ≡ image (poolMap p)
+  is-map : MapImage (image (poolMap p))
+  map-back : imageMap (image (poolMap p)) ≡ poolMap p
 
-pub built-image : (p : Pool) (ls vs ws qs : List ℕ) (n : ℕ) → (Sound p → Catalogue (poolMap p)) → 0 ∷ n ∷ [] ≡ buildSays p ls vs ws qs → BuiltImage p ls vs ws qs n
+built-image : (p : Pool) (ls vs ws qs : List ℕ) (n : ℕ) → (Sound p → Catalogue (poolMap p)) → 0 ∷ n ∷ [] ≡ buildSays p ls vs ws qs → BuiltImage p ls vs ws qs n
 unfolding image
 built-image p ls vs ws qs n held h =
     let f = build-fitting p ls vs ws qs n h in
@@ -106,9 +104,30 @@ built-image p ls vs ws qs n held h =
       values-in = vs-front .1;
       words-in = ws-front .1;
       shows = λ i. record { labels = l i; values = v i; words = w i };
-      few = omega (arith, f .count, used-within p (f .sound));
       is-map = map-image m c (omega (arith, many, f .count, used-within p (f .sound)));
       map-back = imageMap-image m c;
+    }
+
+-- the same of the buffers as a build left them
+pub record LentImage (p : Pool) (labels values words : List ℕ) (n : ℕ) : Type 0 where
+  pub labels-in : n ≤ length labels
+  pub values-in : n ≤ length values
+  pub words-in : (2 * n + 66) / 64 ≤ length words
+  pub is-map : MapImage (lent (take n labels) (take n values) (take ((2 * n + 66) / 64) words))
+  pub map-is : imageMap (lent (take n labels) (take n values) (take ((2 * n + 66) / 64) words)) ≡ poolMap p
+
+pub lent-image : (p : Pool) (ls vs ws qs : List ℕ) (n : ℕ) (labels values words : List ℕ) → (Sound p → Catalogue (poolMap p)) → 0 ∷ n ∷ [] ≡ buildSays p ls vs ws qs
+    → labels ≡ buildLabels p ls vs ws qs → values ≡ buildValues p ls vs ws qs → words ≡ buildWords p ls vs ws qs → LentImage p labels values words n
+lent-image p ls vs ws qs n labels values words held h l v w =
+    let b = built-image p ls vs ws qs n held h in
+    let shows : lent (take n labels) (take n values) (take ((2 * n + 66) / 64) words) ≡ image (poolMap p) =
+    (λ i. lent (take n (l i)) (take n (v i)) (take ((2 * n + 66) / 64) (w i))) ∙ b .shows in
+    record {
+      labels-in = subst (λ (xs : List ℕ). n ≤ length xs) (sym l) (b .labels-in);
+      values-in = subst (λ (xs : List ℕ). n ≤ length xs) (sym v) (b .values-in);
+      words-in = subst (λ (xs : List ℕ). (2 * n + 66) / 64 ≤ length xs) (sym w) (b .words-in);
+      is-map = subst MapImage (sym shows) (b .is-map);
+      map-is = ap imageMap shows ∙ b .map-back;
     }
 
 -- a sound pool of the program's length is built in buffers of its lengths

@@ -12,12 +12,12 @@ use native.Mathlib.Omega.{arith}
 use mathlib.Core.Bool.{Bool, true, false}
 use mathlib.Core.List.{List, [], _∷_, _++_}
 use mathlib.Core.Option.{Option, none, some}
-use lib.ListN.{length, getD, take, drop}
+use lib.ListN.{length, getD, take}
 use lib.Dec.{eqb}
 use borrow.Author.Tests.{eq-eqb, ne-eqb, eqb-false}
 use Rattle.keymap.specs.Limits.{byteLimit}
-use Rattle.keymap.specs.Key.{Key, Bytes}
-use Rattle.keymap.specs.Map.{Entry, Map, insert, insertAll}
+use Rattle.keymap.specs.Key.{Bytes}
+use Rattle.keymap.specs.Map.{Entry, insertAll}
 use Rattle.keymap.specs.Refusals.{Refusal, refusalNumber}
 use Rattle.keymap.proofs.Laws.Begins.{bytes-prefix, prefix-leading}
 use Rattle.records.specs.Words.{Pool, recordWords}
@@ -34,7 +34,7 @@ use Rattle.lines.specs.TabLine.{keyPart, tabEntry, entrySays, entryKey, tabLine
 use Rattle.lines.specs.Text.{inFirst, linesOf, entryLines}
 use Rattle.lines.proofs.Laws.TabLine.{tabEntry-some}
 use Rattle.catalogue.specs.declared.filling.Filled as answers
-use Rattle.catalogue.specs.TextAnswers.{entriesIn, textMap}
+use Rattle.catalogue.specs.TextAnswers.{entriesIn}
 use Rattle.catalogue.specs.Filling.{saidFilled, lineSays, linePool, fillFrom, leftFrom, fillPool, HeldIf}
 
 -- ---- one line

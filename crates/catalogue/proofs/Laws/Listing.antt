@@ -7,9 +7,9 @@
 -- Assumes nothing.
 use mathlib.Core.Path.{_≡_, refl, sym, ap, subst, _∙_}
 use mathlib.Core.Logic.{inl}
-use Prim.Native.Nat.{ℕ, suc, _+_, _-_, _≤_, _<_}
+use Prim.Native.Nat.{ℕ, _+_, _-_, _≤_, _<_}
 use native.Mathlib.Omega.{arith}
-use mathlib.Core.Bool.{Bool, true, false, cond}
+use mathlib.Core.Bool.{true, cond}
 use mathlib.Core.List.{List, [], _∷_, _++_, head?, append-assoc, append-nil}
 use mathlib.Core.Option.{Option, none, some}
 use lib.ListN.{length, take, drop, length-append, length-drop, drop-of-length-le}
@@ -28,7 +28,6 @@ use Rattle.keymap.proofs.Laws.Begins.{prefix-empty}
 use Rattle.keymap.proofs.Laws.Queries.{keep-all}
 use Rattle.keymap.proofs.Laws.Paths.{pathOf-nodeOf, nodeOf-node, nodes-iff}
 use Rattle.keymap.proofs.Laws.Buffers.{length-over}
-use Rattle.image.specs.AcceptTest.{imageTest}
 use Rattle.image.specs.Meaning.{MapImage}
 use Rattle.image.proofs.Laws.Meaning.{mapImage-tested}
 use Rattle.lines.specs.Bytes.{tab, lineFeed}
@@ -47,7 +46,7 @@ use Rattle.trie.specs.GivenKey.{keyOf, keySays, keyOut}
 use Rattle.trie.proofs.Laws.Answers.{saidCursor-one, saidStepped-one}
 use Rattle.trie.proofs.Laws.Cursors.{belongs-fresh, startSays-accepted}
 use Rattle.catalogue.proofs.Laws.Putting.{Put, put-start, put-behind}
-use Rattle.catalogue.proofs.Laws.Next.{nextEntry, nextCursor, kindOf, restOf, next-head, next-member, next-belongs, next-key, rest-step}
+use Rattle.catalogue.proofs.Laws.Next.{nextEntry, nextCursor, kindOf, restOf, next-head, next-belongs, next-key, rest-step}
 
 -- ---- where a cursor stands
 

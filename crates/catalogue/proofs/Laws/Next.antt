@@ -25,8 +25,6 @@ use Rattle.trie.specs.declared.Kind.{Kind}
 use Rattle.trie.specs.declared.Kind.the-variants as kinds
 use Rattle.trie.specs.declared.Cursor.{Cursor}
 use Rattle.trie.specs.declared.Cursor.the-variants.{Open, Finished}
-use Rattle.trie.specs.declared.Stepped.the-variants as stepped
-use Rattle.trie.specs.declared.Spelled.the-variants as spelled
 use Rattle.trie.specs.Cursors.{setOf, belongs, nextIn}
 use Rattle.trie.specs.GivenKey.{givenKey, keyOf}
 use Rattle.trie.proofs.Laws.Cursors.{entry-path, setOf-rising, setOf-in, belongs-at, belongs-top}

@@ -6,20 +6,19 @@
 --     listing-fits       a listing has room
 -- Assumes nothing.
 use mathlib.Core.Path.{_≡_, refl, sym, ap, subst, _∙_}
-use Prim.Native.Nat.{ℕ, zero, suc, _+_, _≤_, _<_, Ordering, Ordering·lt, Ordering·eq, Ordering·gt}
+use Prim.Native.Nat.{ℕ, suc, _+_, _≤_, _<_, Ordering, Ordering·lt, Ordering·eq, Ordering·gt}
 use native.Mathlib.Omega.{arith}
 use mathlib.Core.Bool.{Bool, true, false, cond}
 use mathlib.Core.List.{List, [], _∷_, _++_}
 use mathlib.Core.Option.{Option, none, some}
 use lib.ListN.{length, take, drop, length-append, length-take}
-use lib.Dec.{eqb, ltb}
+use lib.Dec.{eqb}
 use borrow.Author.Tests.{lt-ltb, le-ltb, ne-eqb}
 use Rattle.keymap.specs.Key.{Key, Bytes, compareKeys}
 use Rattle.keymap.specs.Map.{Entry, Map, insert, insertAll}
 use Rattle.keymap.specs.Buffers.{over}
 use Rattle.records.specs.Words.{Pool, recordWords, capacity}
 use Rattle.records.specs.Meaning.{poolMap}
-use Rattle.pool.specs.Answers.{accepted}
 use Rattle.pool.specs.Reset.{resetPool}
 use Rattle.image.specs.Build.{buildSays, buildLabels, buildValues, buildWords, buildScratch}
 use Rattle.lines.specs.Bytes.{lineFeed}
@@ -32,11 +31,11 @@ use Rattle.catalogue.specs.declared.reading.Reading.{Reading}
 use Rattle.catalogue.specs.Limits.{fileLimit, programCapacity}
 use Rattle.catalogue.specs.TextAnswers.{textFrom, textSays, entriesIn, textMap}
 use Rattle.catalogue.specs.Filling.{saidFilled, fillFrom, leftFrom, fillPool, HeldIf}
-use Rattle.catalogue.specs.Program.{noFileText, tooLongText, refusedText, answerText, programText}
-use Rattle.catalogue.specs.Reading.{fileRoom, whatRead}
+use Rattle.catalogue.specs.Program.{noFileText, tooLongText, refusedText, programText}
+use Rattle.catalogue.specs.Reading.{whatRead}
 use Rattle.catalogue.specs.Rooms.{programPool, builtPool}
 use Rattle.catalogue.proofs.Laws.Filling.{filled-holds}
-use Rattle.catalogue.proofs.Laws.TextAnswers.{Told, Stopped, cause-number, text-told, text-long, text-short, reset-text}
+use Rattle.catalogue.proofs.Laws.TextAnswers.{Told, cause-number, text-told, text-long, text-short, reset-text}
 
 -- ---- a pool of the program's length
 

@@ -24,7 +24,6 @@ use Rattle.lines.specs.Bytes.{tab, lineFeed}
 use Rattle.lines.specs.Decimal.{zeroDigit, decimal}
 use Rattle.lines.specs.Writing.{tabLine, tabText}
 use Rattle.lines.proofs.Laws.Decimal.{decimal-small, length-decimal, length-decimal-large, lastDigits, lastDigits-all}
-use Rattle.lines.proofs.Laws.Writing.{length-tabText}
 use Rattle.catalogue.specs.Program.{refusedWord, lineWord, refusedText}
 
 -- ---- at a place

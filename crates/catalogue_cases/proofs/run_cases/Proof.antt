@@ -3,7 +3,6 @@ use mathlib.Core.Path.{sym, ap, _∙_}
 use Prim.Native.Nat.{_-_}
 use native.Mathlib.Omega.{arith}
 use lib.ListN.{length}
-use borrow.Author.Needs.{needs}
 use Rattle.lines.specs.Answers.{saidCut}
 use Rattle.lines.proofs.Laws.Text.{Cuts, next-cuts}
 use Rattle.catalogue_cases.proofs.run_cases.Statement.{statement}

@@ -1,6 +1,5 @@
 -- `catalogue::filling::push_line` meets its contract: the line's entry is pushed, and a line without one is 9. Assumes nothing.
 use mathlib.Core.Path.{sym, ap, _∙_}
-use mathlib.Core.Option.{none}
 use borrow.Author.Needs.{needs}
 use Rattle.keymap.specs.Key.{Key}
 use Rattle.pool.specs.Push.{pushSays, pushPool}

@@ -1,7 +1,7 @@
 -- `catalogue::listing::list_image` meets its contract and ends: entry after entry, the text of the map is put up to the cursor. Assumes nothing.
 use mathlib.Core.Path.{_≡_, refl, sym, ap, subst, _∙_}
 use Prim.Native.Nat.{ℕ, _+_, _-_}
-use mathlib.Core.Logic.{_⊎_, inl, inr}
+use mathlib.Core.Logic.{inl, inr}
 use native.Mathlib.Omega.{arith}
 use lib.ListN.{length, take, drop}
 use borrow.Author.Needs.{needs}
@@ -14,7 +14,6 @@ use Rattle.keymap.specs.Buffers.{over}
 use Rattle.lines.specs.Writing.{tabText}
 use Rattle.keymap.specs.Decode.{imageMap}
 use Rattle.image.specs.Meaning.{lent}
-use Rattle.trie.specs.declared.Cursor.{Cursor}
 use Rattle.trie.specs.declared.Stepped.{Stepped}
 use Rattle.trie.specs.declared.Stepped.the-variants as stepped
 use Rattle.trie.specs.declared.Spelled.{Spelled}

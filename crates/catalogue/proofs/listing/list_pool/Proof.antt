@@ -2,27 +2,23 @@
 use mathlib.Core.Path.{_≡_, sym, ap, subst, _∙_}
 use mathlib.Core.Logic.{inl, inr}
 use mathlib.Core.Bool.{true}
-use mathlib.Core.List.{List, [], _∷_}
-use Prim.Native.Nat.{ℕ, _+_, _*_, _/_, _≤_}
+use mathlib.Core.List.{[], _∷_}
+use Prim.Native.Nat.{ℕ, _≤_}
 use native.Mathlib.Omega.{arith}
-use lib.ListN.{length, take}
+use lib.ListN.{length}
 use lib.Seq.{length-take-le}
 use borrow.Author.Needs.{needs}
 use types.Run.{OneOf}
 use denote.Enum.Declared.{tagOf}
 use Rattle.keymap.specs.Map.{Map}
-use Rattle.keymap.specs.Image.{Image}
-use Rattle.keymap.specs.Decode.{imageMap}
 use Rattle.keymap.specs.Buffers.{over}
-use Rattle.records.specs.Meaning.{poolMap}
 use Rattle.records.proofs.Laws.Meaning.{map-catalogue}
 use Rattle.pool.specs.Answers.{accepted}
 use Rattle.image.specs.declared.answers.Built.{Built}
 use Rattle.image.proofs.answers.Built as of-built
 use Rattle.image.specs.Build.{saidBuilt}
-use Rattle.image.specs.Meaning.{lent, MapImage}
 use Rattle.lines.specs.Writing.{mapText}
-use Rattle.catalogue.proofs.Laws.Building.{BuiltImage, word-bounded, built-image}
+use Rattle.catalogue.proofs.Laws.Building.{LentImage, word-bounded, lent-image}
 use Rattle.catalogue.proofs.listing.list_pool.Statement.{statement}
 use Rattle.catalogue.proofs.listing.list_pool.Tie as tie
 
@@ -60,45 +56,24 @@ cast-nodes : tie.Need-cast-nodes
 cast-nodes c = search needs
 
 -- what the build left, where its answer is n
-built : (c : tie.After-known-told) → BuiltImage (c .before .before .before .before .before .before .before .before .before .before .before .before .before .before .before .before .before .before .before .before .before .before .args .pool .now) (c .before .before .before .before .before .before .before .before .before .before .before .before .before .before .before .before .before .before .before .before .before .before .args .labels .now) (c .before .before .before .before .before .before .before .before .before .before .before .before .before .before .before .before .before .before .before .before .before .before .args .values .now) (c .before .before .before .before .before .before .before .before .before .before .before .before .before .before .before .before .before .before .before .before .before .before .args .words .now) (c .before .before .before .before .before .before .before .before .before .before .before .before .before .before .before .before .before .before .before .before .before .before .args .scratch .now) (c .before .n .given .0 .0)
+built : (c : tie.After-known-told) → LentImage (c .before .before .before .before .before .before .before .before .before .before .before .before .before .before .before .before .before .before .before .before .before .before .args .pool .now) (c .before .before .before .before .before .before .before .before .before .before .before .build .last .1 .0) (c .before .before .before .before .before .before .before .before .before .before .before .build .last .1 .1 .0) (c .before .before .before .before .before .before .before .before .before .before .before .build .last .1 .1 .1 .0) (c .before .n .given .0 .0)
 built c =
-    built-image _ _ _ _ _ _ (λ s. map-catalogue _ s (word-bounded _ (λ j. c .before .before .before .before .before .before .before .before .before .before .before .before .before .before .before .before .before .before .before .before .before .shared-slice-known .given j .fits)))
-    (ap saidBuilt (sym (c .before .n .given .1)) ∙ c .before .before .before .before .before .before .before .before .before .before .before .build .ensures .0)
-
-labels-in : (c : tie.After-known-told) → c .before .n .given .0 .0 ≤ length (c .before .before .before .before .before .before .before .before .before .before .before .build .last .1 .0)
-labels-in c = subst (λ (xs : List ℕ). c .before .n .given .0 .0 ≤ length xs) (sym (c .before .before .before .before .before .before .before .before .before .before .before .build .ensures .1 .0)) (built c .labels-in)
-
-values-in : (c : tie.After-known-told) → c .before .n .given .0 .0 ≤ length (c .before .before .before .before .before .before .before .before .before .before .before .build .last .1 .1 .0)
-values-in c = subst (λ (xs : List ℕ). c .before .n .given .0 .0 ≤ length xs) (sym (c .before .before .before .before .before .before .before .before .before .before .before .build .ensures .1 .1 .0)) (built c .values-in)
-
-words-in : (c : tie.After-known-told) → (2 * c .before .n .given .0 .0 + 66) / 64 ≤ length (c .before .before .before .before .before .before .before .before .before .before .before .build .last .1 .1 .1 .0)
-words-in c = subst (λ (xs : List ℕ). (2 * c .before .n .given .0 .0 + 66) / 64 ≤ length xs) (sym (c .before .before .before .before .before .before .before .before .before .before .before .build .ensures .1 .1 .1 .0)) (built c .words-in)
-
-abbrev imageAt : tie.After-known-told → Image
-imageAt c = lent (take (c .before .n .given .0 .0) (c .before .before .before .before .before .before .before .before .before .before .before .build .last .1 .0)) (take (c .before .n .given .0 .0) (c .before .before .before .before .before .before .before .before .before .before .before .build .last .1 .1 .0)) (take ((2 * c .before .n .given .0 .0 + 66) / 64) (c .before .before .before .before .before .before .before .before .before .before .before .build .last .1 .1 .1 .0))
-
--- what is lent of the buffers is a map's image, the pool's
-lent-image : (c : tie.After-known-told) → MapImage (imageAt c) × (imageMap (imageAt c) ≡ poolMap (c .before .before .before .before .before .before .before .before .before .before .before .before .before .before .before .before .before .before .before .before .before .before .args .pool .now))
-lent-image c =
-    let n = c .before .n .given .0 .0 in
-    let l = c .before .before .before .before .before .before .before .before .before .before .before .build .ensures .1 .0 in
-    let v = c .before .before .before .before .before .before .before .before .before .before .before .build .ensures .1 .1 .0 in
-    let w = c .before .before .before .before .before .before .before .before .before .before .before .build .ensures .1 .1 .1 .0 in
-    let b = built c in
-    let shows = (λ i. lent (take n (l i)) (take n (v i)) (take ((2 * n + 66) / 64) (w i))) ∙ b .shows in
-    (subst MapImage (sym shows) (b .is-map), ap imageMap shows ∙ b .map-back)
+    let a = c .before .before .before .before .before .before .before .before .before .before .before .before .before .before .before .before .before .before .before .before .before .before .args in
+    let left = c .before .before .before .before .before .before .before .before .before .before .before .build .ensures in
+    lent-image (a .pool .now) (a .labels .now) (a .values .now) (a .words .now) (a .scratch .now) _ _ _ _ (λ s. map-catalogue _ s (word-bounded _ (λ j. c .before .before .before .before .before .before .before .before .before .before .before .before .before .before .before .before .before .before .before .before .before .shared-slice-known .given j .fits)))
+    (ap saidBuilt (sym (c .before .n .given .1)) ∙ left .0) (left .1 .0) (left .1 .1 .0) (left .1 .1 .1 .0)
 
 slice-reshare-prefix-list-image : tie.Need-slice-reshare-prefix-list-image
-slice-reshare-prefix-list-image c = labels-in c
+slice-reshare-prefix-list-image c = built c .labels-in
 
 slice-aggregate-list-image : tie.Need-slice-aggregate-list-image
-slice-aggregate-list-image c = sym (length-take-le _ _ (labels-in (c .before)))
+slice-aggregate-list-image c = sym (length-take-le _ _ (built (c .before) .labels-in))
 
 slice-reshare-prefix-list-image-2 : tie.Need-slice-reshare-prefix-list-image-2
-slice-reshare-prefix-list-image-2 c = values-in (c .before)
+slice-reshare-prefix-list-image-2 c = built (c .before) .values-in
 
 slice-aggregate-list-image-2 : tie.Need-slice-aggregate-list-image-2
-slice-aggregate-list-image-2 c = sym (length-take-le _ _ (values-in (c .before .before)))
+slice-aggregate-list-image-2 c = sym (length-take-le _ _ (built (c .before .before) .values-in))
 
 mul-list-image : tie.Need-mul-list-image
 mul-list-image c = search needs
@@ -107,16 +82,16 @@ add-list-image : tie.Need-add-list-image
 add-list-image c = search needs
 
 slice-reshare-prefix-list-image-3 : tie.Need-slice-reshare-prefix-list-image-3
-slice-reshare-prefix-list-image-3 c = words-in (c .before .before)
+slice-reshare-prefix-list-image-3 c = built (c .before .before) .words-in
 
 slice-aggregate-list-image-3 : tie.Need-slice-aggregate-list-image-3
-slice-aggregate-list-image-3 c = sym (length-take-le _ _ (words-in (c .before .before .before)))
+slice-aggregate-list-image-3 c = sym (length-take-le _ _ (built (c .before .before .before) .words-in))
 
 list-image-requires : tie.Need-list-image-requires
 list-image-requires c κs =
-    let shown = lent-image (c .before .before .before .before) in
+    let shown = built (c .before .before .before .before) in
     let out = c .before .before .before .before .before .before .before .before .before .before .before .before .before .before .before .before .before .before .before .before .before .before .before .before .before .before .args .out .now in
-    (shown .0, subst (λ (m : Map). length (mapText m) ≤ length out) (sym (shown .1)) (c .before .before .before .before .before .before .before .before .before .before .before .before .before .before .before .before .before .before .before .before .before .before .before .before .before .before .pre .1))
+    (shown .is-map, subst (λ (m : Map). length (mapText m) ≤ length out) (sym (shown .map-is)) (c .before .before .before .before .before .before .before .before .before .before .before .before .before .before .before .before .before .before .before .before .before .before .before .before .before .before .pre .1))
 
 same-length-5 : tie.Need-same-length-5
 same-length-5 c = c .before .before .before .before .before .before .before .before .before .before .before .before .before .before .before .before .before .before .build .kept .1 .0
@@ -137,7 +112,7 @@ returns-2 : tie.Need-returns-2
 returns-2 c =
     let listed = c .before .before .list-image .ensures in
     let left = c .before .before .before .before .before .before .before .before .before .before .before .before .before .before .before .before .before .before .build .ensures .1 in
-    let shown = lent-image (c .before .before .before .before .before .before .before) .1 in
+    let shown = built (c .before .before .before .before .before .before .before) .map-is in
     let out = c .before .before .before .before .before .before .before .before .before .before .before .before .before .before .before .before .before .before .before .before .before .before .before .before .before .before .before .before .before .args .out .now in
     (listed .0 ∙ ap (λ (m : Map). length (mapText m)) shown, (listed .1 ∙ ap (λ (m : Map). over (mapText m) out) shown, left))
 

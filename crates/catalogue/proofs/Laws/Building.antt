@@ -1,8 +1,8 @@
 -- Laws of the image that is lent after a build: the fronts of the three buffers are the image of the pool's map.
 --
---     word-bounded      a pool of 32-bit words is bounded
+--     word-bounded             a pool of 32-bit words is bounded
 --     LentImage, lent-image    what is lent of the buffers after an accepted build of a catalogue
---     build-accepts     a sound pool of the program's length is built in buffers of its lengths
+--     build-accepts            a sound pool of the program's length is built in buffers of its lengths
 -- Assumes nothing.
 use mathlib.Core.Path.{_≡_, refl, sym, ap, subst, _∙_}
 use Prim.Native.Nat.{ℕ, _+_, _*_, _/_, _≤_, _<_}

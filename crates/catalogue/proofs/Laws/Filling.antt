@@ -1,6 +1,7 @@
 -- Laws of lines pushed in turn. An accepted line is an insert of its entry, so that lines accepted whole leave the map of their entries.
 --
 --     entry-said, entry-none           the entry of a line, by what `tab_line` answered
+--     line-refused                     a refused line leaves the pool as it was
 --     fill-end, fill-goes, fill-stops  the equations of `fillFrom` and `leftFrom`, by what one line says
 --     fill-means                       lines accepted whole leave a sound pool that holds the inserts of their entries
 --     filled-holds                     a text accepted whole after a reset leaves a sound pool that holds the map of its entries

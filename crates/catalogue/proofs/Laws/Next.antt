@@ -1,5 +1,6 @@
 -- Laws of what a listing gives next, and of the rest. The next entry is the first of the rest, and behind it stand the others.
 --
+--     nextEntry, nextCursor      the entry that a cursor gives next, and the cursor behind it; `restOf`: the entries still to be given
 --     next-head                  the next entry is the first of the rest
 --     next-member                it is one of the map
 --     next-belongs, next-key     the cursor behind it belongs, and in a predictive listing its key is the entry's

@@ -1,12 +1,12 @@
 -- Laws of what is put into a buffer, one text behind the other.
 --
---     over-at         a text put at a place, as more of what stands before it
---     put-turn        one byte more of a text
---     fewest-decimal  the fewest digits that hold a number are its decimal
---     Put, put-front  a text at a buffer's start
---     put-behind      texts put one behind the other are one text, and `put-from`: behind what stands before a place
---     put-refused     the text of a refusal, and `length-parts`, `length-refused`: its length, at most 55 bytes
---     put-value       what stands behind the key in the text of an entry
+--     over-at              a text put at a place, as more of what stands before it
+--     put-none, put-turn   nothing yet, and one byte more of a text
+--     fewest-decimal       the fewest digits that hold a number are its decimal
+--     Put, put-front       a text at a buffer's start
+--     put-behind           texts put one behind the other are one text, and `put-from`: behind what stands before a place
+--     put-refused          the text of a refusal, and `length-parts`, `length-refused`: its length, at most 55 bytes
+--     put-value            what stands behind the key in the text of an entry
 -- Assumes nothing.
 use mathlib.Core.Path.{_≡_, refl, sym, ap, subst, _∙_}
 use Prim.Native.Nat.{ℕ, zero, suc, _+_, _*_, _-_, _/_, _%_, _^_, _≤_, _<_}

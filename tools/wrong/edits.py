@@ -3,8 +3,8 @@
 
     python3 tools/wrong/edits.py
 
-says which edits of crates/NAME/must-fail/ and crates/NAME/wrong/ do not fit, in under a second, and ends with their number: an edit
-whose text has moved away tries nothing, and `rt ci` would tell so only after it has proved everything.
+says which edits of crates/NAME/must-fail/ and crates/NAME/wrong/ do not fit, in a second, and ends with their number: an edit whose
+text has moved away tries nothing, and `rt ci` would tell so only after it has proved everything.
 
 An edit is lines, in the form that `rt` reads:
 
@@ -16,7 +16,9 @@ An edit is lines, in the form that `rt` reads:
 
 `rt` passes over every line that begins with none of `file: `, `old: ` and `new:`, so over `refuses: ` too.
 """
+import re
 import sys
+from functools import cache
 from pathlib import Path
 
 ROOT = Path(__file__).resolve().parents[2]
@@ -68,6 +70,28 @@ class Edit:
         return made, texts
 
 
+@cache
+def names(crate):
+    """What can be refused in a crate: its functions, as crate::module::name, and the laws of its proofs, as File.name."""
+    found, top = set(), ROOT / 'crates' / crate
+    for path in (top / 'src').rglob('*.rt'):
+        module = [part for part in path.relative_to(top / 'src').with_suffix('').parts if part not in ('lib', 'main', 'mod')]
+        owner = []
+        for line in path.read_text('utf-8').split('\n'):
+            if line.startswith(('impl ', '}')):
+                owner = re.findall(r'^impl (\w+)', line)
+            found |= {'::'.join([crate, *module, *owner, name]) for name in re.findall(r'^\s*(?:pub(?:\(\w+\))? )?fn (\w+)', line)}
+    for path in (top / 'proofs').rglob('*.antt'):
+        file = '.'.join(path.relative_to(top / 'proofs').with_suffix('').parts)
+        laws = re.findall(r'^\s*(?:(?:pub|unfoldable|abbrev) )*([^\s:(]+) :', path.read_text('utf-8'), re.M)
+        found |= {f'{file}.{law}' for law in laws}
+    return found
+
+
+def is_named(wanted, name):
+    return wanted == name or name.endswith(('.' + wanted, '::' + wanted))
+
+
 def edits(crates=None):
     """All edits, in the order of crates, folders and names."""
     top = ROOT / 'crates'
@@ -81,6 +105,9 @@ def main():
     for edit in edits():
         try:
             edit.apply(ROOT / 'crates' / edit.crate)
+            for wanted in edit.refuses:
+                if not any(is_named(wanted, name) for name in names(edit.crate)):
+                    raise Unfit(f"'{wanted}' is no function and no law of the crate")
         except Unfit as why:
             unfit += 1
             print(f'{edit.crate}/{edit.label}: {why}')

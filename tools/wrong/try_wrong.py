@@ -18,6 +18,7 @@ doubts, which do not count:
     caller-only     the function whose body is edited is not refused: its promise may be too weak
     own-proof-only  a promise is edited, and only its own proof is refused: a new proof might be all it takes
     safety-only     no promise is missed, but a bound, an overflow, the end of a loop or what a callee asks
+    laws-only       a definition is edited, and only laws are refused, none that computes or ties it: a law may still be true, and only its proof no longer fit
 """
 import argparse
 import os
@@ -29,7 +30,7 @@ import sys
 from concurrent.futures import ThreadPoolExecutor
 from pathlib import Path
 
-from edits import PARTS, ROOT, Unfit, edits
+from edits import PARTS, ROOT, Unfit, edits, is_named
 
 # What rests on a refused declaration is refused in these words, whatever is wrong with that one.
 PASSED_ON = 'so this cannot be checked'
@@ -37,6 +38,7 @@ UNNAMED = re.compile(r'^no `mod` line names this file|for this file to be the pr
 SHAPE = re.compile(r'has no `[^`]*` that can be named|expected type `tie\.Need-|Lts\.\w+` has no field')
 FAILS = re.compile(r'(goal|part) fails')
 FORM = re.compile(r'[-+*/%<>=!&|^]+|\b[a-z]\w*(?=\()')
+LAW = re.compile(r'Laws\.')
 SAFETY = re.compile(r'(add|sub|mul|div|rem|neg|shl|shr|cast|index|part|slice)-|.*-requires|loop-less')
 
 TARGET = ROOT / 'target'
@@ -144,11 +146,9 @@ def doubts(bodies, promises, reformed, found):
         told.append('form')
     if all('::' in name and SAFETY.match(need) for name, need, _ in found):
         told.append('safety-only')
+    if not bodies and not promises and all(LAW.match(name) for name in names):
+        told.append('laws-only')
     return told
-
-
-def is_named(wanted, name):
-    return re.search(rf'(^|\.|::){re.escape(wanted)}$', name)
 
 
 def verdict_of(edit, found):

@@ -4,7 +4,7 @@ use mathlib.Core.Path.{_≡_}
 use denote.Ref.{now}
 use Rattle.keymap.specs.Contract.{Tells}
 use Rattle.catalogue.specs.Reading.{nothingRead, nextAt, takeRead, whatRead}
-use Rattle.catalogue.proofs.Laws.Program.{Written}
+use Rattle.catalogue.specs.Rooms.{Written}
 use Rattle.catalogue.proofs.answer.Kinds as answer-kinds
 use Rattle.catalogue.proofs.answer.Reads as answer-reads
 use Rattle.catalogue.proofs.reading.begin.Kinds as begin-kinds

@@ -4,7 +4,7 @@ ghost use mathlib.Core.Path.{_≡_};
 ghost use Rattle.catalogue.specs.Reading.{nothingRead, nextAt, takeRead};
 use crate::FILE_ROOM;
 
-// How far a file is read. Nothing outside this module can make one but by the calls below.
+// How far a file is read. Nothing outside this crate can make one but by the calls below.
 pub struct Reading {
     // So many bytes of the file stand at the start of the room.
     pub(crate) done: usize,

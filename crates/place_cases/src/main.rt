@@ -196,6 +196,9 @@ fn replay(list: &[u8]) {
 }
 
 fn main() {
+    text(b"the root, place ");
+    number(Place::ROOT.node as u64);
+    text(b"\n");
     let mut room = [0u8; 4096];
     let n = read_list(b"cases", &mut room);
     replay(&room[..n]);

@@ -33,7 +33,7 @@ use Rattle.catalogue.specs.TextAnswers.{textFrom, textSays, entriesIn, t
 use Rattle.catalogue.specs.Filling.{saidFilled, fillFrom, leftFrom, fillPool, HeldIf}
 use Rattle.catalogue.specs.Program.{noFileText, tooLongText, refusedText, programText}
 use Rattle.catalogue.specs.Reading.{whatRead}
-use Rattle.catalogue.specs.Rooms.{programPool, builtPool}
+use Rattle.catalogue.specs.Rooms.{programPool, builtPool, Written}
 use Rattle.catalogue.proofs.Laws.Filling.{filled-holds}
 use Rattle.catalogue.proofs.Laws.TextAnswers.{Told, cause-number, text-told, text-long, text-short, reset-text}
 
@@ -112,17 +112,6 @@ refused-number text number line h z = go (text-told programCapacity text)
         let q : t .number ∷ (1 + length (t .before)) ∷ [] ≡ number ∷ line ∷ [] = sym s ∙ h in
         let same : t .number ≡ number = cc in
         cause-number programCapacity (insertAll (entriesIn (t .before)) []) (t .line) (t .number) (t .cause) (same ∙ z)
-
--- the number of bytes, the buffer they are put into, the pool and the buffers of the build
-abbrev pub Written : Option (List ℕ) → (p ls vs ws qs out₀ : List ℕ) → ℕ → (out q ls₁ vs₁ ws₁ qs₁ : List ℕ) → Type 0
-Written w p ls vs ws qs out₀ r out q ls₁ vs₁ ws₁ qs₁ =
-    (r ≡ length (programText w)) ×
-    ((out ≡ over (programText w) out₀) ×
-    ((q ≡ programPool w p) ×
-    ((ls₁ ≡ buildLabels (builtPool w p) ls vs ws qs) ×
-    ((vs₁ ≡ buildValues (builtPool w p) ls vs ws qs) ×
-    ((ws₁ ≡ buildWords (builtPool w p) ls vs ws qs) ×
-    (qs₁ ≡ buildScratch (builtPool w p) ls vs ws qs))))))
 
 module _ (w : Option (List ℕ)) (p ls vs ws qs out₀ : List ℕ) where
   -- what is put at the start is t, and nothing is built

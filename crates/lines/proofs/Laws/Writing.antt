@@ -1,7 +1,7 @@
 -- Laws of text written and read back. A key without TAB ends before the line's first TAB, and digits have neither TAB nor LF,
 -- so the reader cuts a written text where the writer joined it; what the reader takes was written so.
 --
---     length-tabText        the length of an entry's text, and `length-tabText-most` its bound
+--     length-tabText        the length of an entry's text
 --     tabEntry-tabLine      the line of an entry is read as that entry
 --     tabEntry-one          a line that is read as an entry is the line of it, so that the entry's text is the line and LF
 --     linesOf-mapText       the lines of a map's text are those of its entries
@@ -15,7 +15,6 @@ use mathlib.Core.List.{List, [], _∷_, _++_, map, append-assoc}
 use mathlib.Core.Option.{some}
 use native.Mathlib.Omega.{arith}
 use lib.ListN.{length, length-append}
-use Rattle.keymap.specs.Limits.{valueLimit}
 use Rattle.keymap.specs.Map.{Entry}
 use Rattle.lines.specs.Bytes.{tab, lineFeed, holds, stretch}
 use Rattle.lines.specs.Decimal.{decimal, numberIn}
@@ -23,16 +22,13 @@ use Rattle.lines.specs.TabLine.{keyPart, numberPart, tabEntry}
 use Rattle.lines.specs.Text.{linesOf, entryLines, entriesOf}
 use Rattle.lines.specs.Writing.{tabLine, tabText, mapText, Plain, AllPlain}
 use Rattle.lines.proofs.Laws.Bytes.{holds-stretch, holds-append}
-use Rattle.lines.proofs.Laws.Decimal.{length-decimal-most, areDigits-decimal, holds-digits, numberIn-decimal, numberIn-one, numberIn-below}
+use Rattle.lines.proofs.Laws.Decimal.{areDigits-decimal, holds-digits, numberIn-decimal, numberIn-one, numberIn-below}
 use Rattle.lines.proofs.Laws.TabLine.{tabEntry-parts, line-parts, holds-join, keyPart-join, numberPart-join, tabEntry-some}
 use Rattle.lines.proofs.Laws.Text.{linesOf-ended}
 
 pub length-tabText : (e : Entry) → length (tabText e) ≡ length (e .0) + length (decimal (e .1)) + 2
 unfolding tabText tabLine
 length-tabText e = simp length-append (omega arith)
-
-pub length-tabText-most : (e : Entry) → e .1 < valueLimit → length (tabText e) ≤ length (e .0) + 12
-length-tabText-most e h = rw length-tabText (omega (arith, length-decimal-most (e .1) h))
 
 pub tabEntry-tabLine : (e : Entry) → Plain e → tabEntry (tabLine e) ≡ some e
 unfolding tabLine

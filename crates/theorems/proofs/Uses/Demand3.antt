@@ -1,15 +1,15 @@
 -- Uses of demand 3: A's pushes into a pool of capacity 3, and B's into a longer one. Assumes nothing.
-use Prim.Native.Nat.{ℕ, _≤_}
+use Prim.Native.Nat.{ℕ, _≤_, _<_}
 use mathlib.Core.Path.{_≡_, refl, sym, _∙_}
 use mathlib.Core.List.{List, [], _∷_, cons-ne-nil}
 use native.Mathlib.Omega.{arith}
 use lib.ListN.{length, getD, replicate}
 use Rattle.keymap.specs.Members.{In, Distinct, here}
-use Rattle.keymap.specs.Key.{compareKeys}
+use Rattle.keymap.specs.Key.{Key, Bytes, compareKeys, beginsWith}
 use Rattle.keymap.specs.Map.{Rising, insert}
+use Rattle.keymap.specs.Queries.{SomeBegins}
 use Rattle.keymap.specs.Prefixes.{level, deepest, levels, prefixes}
 use Rattle.keymap.specs.Paths.{nodes, pathOf}
-use Rattle.keymap.specs.Key.{beginsWith}
 use Rattle.records.specs.Words.{InUse}
 use Rattle.records.specs.Spelling as spelling
 use Rattle.records.specs.Meaning.{poolMap}
@@ -17,6 +17,7 @@ use Rattle.pool.specs.Reset.{resetSays, resetPool}
 use Rattle.pool.specs.UseCount.{useCountSays}
 use Rattle.pool.specs.Push.{pushSays}
 use Rattle.pool.specs.History.{AllLent, mapRun}
+use Rattle.pool.specs.History as pools
 use Rattle.image.specs.History.{Call, poolCalls, runSays, mapRunSays}
 use Rattle.image.specs.Build.{buffersFit, fitSays, buildSays, buildScratch}
 use Rattle.theorems.specs.Built.{poolAfter, builtImage}
@@ -31,31 +32,39 @@ ofA = every-history poolA rootedA callsA callsA-lent
 pub resets : resetSays poolA ≡ 0 ∷ []
 resets = ofA .resets
 
--- "ab" 7, "b" 3, then "c" (4, capacity is 3), the empty key (3), "ab" 9 (accepted), the use count, a build that lacks a scratch entry (5) and one that does not
+-- "c" 5 and a reset, "ab" 7, "b" 3, then "c" (4, capacity is 3), the empty key (3), "ab" 9 (accepted), the use count, a build that lacks a scratch entry (5) and one that does not
 abbrev long : List Call
-long = push ab 7 ∷ push b 3 ∷ push c 1 ∷ push [] 1 ∷ push ab 9 ∷ useCount ∷ Call.build four four two two ∷ Call.build four four two four ∷ []
+long = push c 5 ∷ Call.onPool pools.Call.reset ∷ push ab 7 ∷ push b 3 ∷ push c 1 ∷ push [] 1 ∷ push ab 9 ∷ useCount ∷ Call.build four four two two ∷ Call.build four four two four ∷ []
 
 long-lent : AllLent (poolCalls long)
 unfolding poolCalls
 long-lent =
-    (((omega arith, (omega arith, tt)), omega arith), (((omega arith, tt), omega arith), (((omega arith, tt), omega arith), ((tt, omega arith), (((omega arith, (omega arith, tt)), omega arith), (tt, tt))))))
+    (((omega arith, tt), omega arith), (tt, (((omega arith, (omega arith, tt)), omega arith), (((omega arith, tt), omega arith), (((omega arith, tt), omega arith), ((tt, omega arith), (((omega arith, (omega arith, tt)), omega arith), (tt, tt))))))))
 
-pub answers : runSays (resetPool poolA) long ≡ (0 ∷ []) ∷ (0 ∷ []) ∷ (4 ∷ []) ∷ (3 ∷ []) ∷ (0 ∷ []) ∷ (0 ∷ 3 ∷ []) ∷ (5 ∷ []) ∷ (0 ∷ 3 ∷ []) ∷ []
+pub answers : runSays (resetPool poolA) long ≡ (0 ∷ []) ∷ (0 ∷ []) ∷ (0 ∷ []) ∷ (0 ∷ []) ∷ (4 ∷ []) ∷ (3 ∷ []) ∷ (0 ∷ []) ∷ (0 ∷ 3 ∷ []) ∷ (5 ∷ []) ∷ (0 ∷ 3 ∷ []) ∷ []
 unfolding mapRunSays insert compareKeys prefixes levels level deepest fitSays buffersFit
 answers = every-history poolA rootedA long long-lent .answers
 
--- the pool holds A's map, whose keys rise
+-- the pool holds A's map, and after the longer history "ab" with its last value; the keys rise, are nonempty and of bytes, and the values are of 32 bits
 pub holds : poolMap (poolAfter poolA callsA) ≡ mapA
 holds = ofA .holds ∙ mapAfterA
 
-pub catalogue : Rising mapA
+pub holds-last : poolMap (poolAfter poolA long) ≡ (ab, 9) ∷ (b, 3) ∷ []
 unfolding mapRun poolCalls insert compareKeys prefixes levels level deepest
-catalogue = ofA .catalogue .rising
+holds-last = every-history poolA rootedA long long-lent .holds
+
+pub catalogue : Rising mapA × ((¬ (ab ≡ [])) × Bytes ab × (7 < 4294967296) × ((¬ (b ≡ [])) × Bytes b × (3 < 4294967296) × Unit {0}))
+unfolding mapRun poolCalls insert compareKeys prefixes levels level deepest
+catalogue = (ofA .catalogue .rising, ofA .catalogue .proper)
 
 -- "a" is one of the prefixes, since "ab" begins with it; the empty key is none; and there are no two of a kind
 pub prefix : In a (prefixes mapA) × (In [] (prefixes mapA) → ⊥)
 unfolding mapRun poolCalls insert compareKeys prefixes levels level deepest beginsWith
 prefix = (ofA .prefix a .1 (cons-ne-nil 97 [], ((ab, 7), here refl, refl)), λ i. ofA .prefix [] .0 i .0 refl)
+
+pub prefix-of : (k : Key) → In k (prefixes mapA) → (¬ (k ≡ [])) × SomeBegins k mapA
+unfolding mapRun poolCalls insert compareKeys prefixes levels level deepest
+prefix-of k = ofA .prefix k .0
 
 pub distinct : Distinct (a ∷ b ∷ ab ∷ [])
 unfolding mapRun poolCalls insert compareKeys prefixes levels level deepest
@@ -93,16 +102,29 @@ pub needs : (buildSays (poolAfter poolA callsA) four four two four ≡ 0 ∷ 3 �
 unfolding mapRun poolCalls insert compareKeys prefixes levels level deepest fitSays buffersFit
 needs = (ofA .needs four four two four, ofA .needs four four two two)
 
+-- each of the others is missed, and just as many are enough
+pub needs-each : (buildSays (poolAfter poolA callsA) two four two four ≡ 5 ∷ [])
+    × (buildSays (poolAfter poolA callsA) four two two four ≡ 5 ∷ [])
+    × (buildSays (poolAfter poolA callsA) four four [] four ≡ 5 ∷ [])
+    × (buildSays (poolAfter poolA callsA) (replicate 3 9) (replicate 3 9) (replicate 1 9) (replicate 3 9) ≡ 0 ∷ 3 ∷ [])
+unfolding mapRun poolCalls insert compareKeys prefixes levels level deepest fitSays buffersFit
+needs-each = (ofA .needs two four two four, ofA .needs four two two four, ofA .needs four four [] four, ofA .needs (replicate 3 9) (replicate 3 9) (replicate 1 9) (replicate 3 9))
+
 -- it answers 3, and leaves A's image
 pub builds : (n : ℕ) → buildSays (poolAfter poolA callsA) four four two four ≡ 0 ∷ n ∷ [] → (n ≡ 3) × (builtImage n (poolAfter poolA callsA) four four two four ≡ imageA)
 unfolding mapRun poolCalls insert compareKeys prefixes levels level deepest
 builds n e = let (many, left) = ofA .builds n four four two four e in (many, left ∙ imageA-is)
 
--- the first scratch entry is the number of the record at "a", which is node 2
+-- the first scratch entry is the number of the record at "a", which is node 2, and the last that of "ab", which is node 4
 pub scratch : InUse (poolAfter poolA callsA) (getD (buildScratch (poolAfter poolA callsA) four four two four) 0 0)
     × (spelling.pathOf (poolAfter poolA callsA) (getD (buildScratch (poolAfter poolA callsA) four four two four) 0 0) ≡ a)
 unfolding mapRun poolCalls insert compareKeys prefixes levels level deepest pathOf nodes
 scratch = ofA .scratch 3 four four two four (needs .0) 0 (omega arith)
+
+pub scratch-last : InUse (poolAfter poolA callsA) (getD (buildScratch (poolAfter poolA callsA) four four two four) 2 0)
+    × (spelling.pathOf (poolAfter poolA callsA) (getD (buildScratch (poolAfter poolA callsA) four four two four) 2 0) ≡ ab)
+unfolding mapRun poolCalls insert compareKeys prefixes levels level deepest pathOf nodes
+scratch-last = ofA .scratch 3 four four two four (needs .0) 2 (omega arith)
 
 -- 5 words are a pool, which has room for no record; a key of the byte 255 with the largest value is taken
 pub smallest : useCountSays (poolAfter (replicate 5 9) []) ≡ 0 ∷ 0 ∷ []

@@ -4,7 +4,7 @@ use mathlib.Core.Path.{_≡_, refl, _∙_}
 use mathlib.Core.List.{[], _∷_}
 use native.Mathlib.Omega.{arith}
 use Rattle.keymap.specs.Members.{In, here}
-use Rattle.keymap.specs.Key.{compareKeys}
+use Rattle.keymap.specs.Key.{Key, compareKeys}
 use Rattle.keymap.specs.Map.{insert, lookup}
 use Rattle.keymap.specs.Prefixes.{level, deepest, levels, prefixes}
 use Rattle.keymap.specs.Forest.{listForest, listTree}
@@ -13,7 +13,7 @@ use Rattle.records.specs.Meaning.{siblingsFrom, forestBelow, poolForest, poolMa
 use Rattle.pool.specs.Reset.{resetPool}
 use Rattle.pool.specs.History.{runPool, mapRun, pushesOf}
 use Rattle.pool.specs.History as pools
-use Rattle.image.specs.History.{poolCalls, runSays}
+use Rattle.image.specs.History.{Call, poolCalls, runSays}
 use Rattle.image.specs.Build.{buildSays}
 use Rattle.trie.specs.Exact.{exactSays}
 use Rattle.theorems.specs.Built.{builtImage}
@@ -25,7 +25,10 @@ use Rattle.theorems.proofs.Uses.Values.{ab, c, mapA, wordsA, wordsA-sou
 ofA : NotReset wordsA
 ofA = every-sound wordsA wordsA-sound wordsA-bounded
 
--- its marked records spell "ab" with 7
+-- its marked records spell "ab" with 7, and nothing else but what is in its map
+pub spelled : (k : Key) (v : ℕ) → Holds wordsA k v → In (k, v) (poolMap wordsA)
+spelled k v = ofA .spells k v .1
+
 pub spells : Holds wordsA ab 7 × In (ab, 7) (poolMap wordsA)
 unfolding poolMap poolForest forestBelow siblingsFrom listTree listForest word lastRecord
 spells = (ofA .spells ab 7 .0 (here refl), ofA .spells ab 7 .1 (ofA .spells ab 7 .0 (here refl)))
@@ -38,12 +41,18 @@ accepts = ofA .accepts
 pub holds : poolMap (refilled wordsA) ≡ mapA
 holds = ofA .holds ∙ wordsA-map
 
--- a push and a use count answer what they answer on the pool that was refilled
-pub answers : runSays wordsA (push c 1 ∷ useCount ∷ []) ≡ runSays (refilled wordsA) (push c 1 ∷ useCount ∷ [])
+-- a push, a use count and a build answer what they answer on the pool that was refilled
+pub answers : runSays wordsA (push c 1 ∷ useCount ∷ Call.build four four two four ∷ []) ≡ runSays (refilled wordsA) (push c 1 ∷ useCount ∷ Call.build four four two four ∷ [])
 unfolding poolCalls
-answers = ofA .answers (push c 1 ∷ useCount ∷ []) (((omega arith, tt), omega arith), (tt, tt))
+answers = ofA .answers (push c 1 ∷ useCount ∷ Call.build four four two four ∷ []) (((omega arith, tt), omega arith), (tt, tt))
 
 -- "ab" is given 9, and what is built then has it
 pub searches : (n : ℕ) → buildSays (runPool wordsA (poolCalls (push ab 9 ∷ []))) four four two four ≡ 0 ∷ n ∷ [] → exactSays (builtImage n (runPool wordsA (poolCalls (push ab 9 ∷ []))) four four two four) ab ≡ 0 ∷ 9 ∷ []
 unfolding setAll setAllIn mapRun poolCalls insert lookup compareKeys prefixes levels level deepest poolMap poolForest forestBelow siblingsFrom listTree listForest word lastRecord
 searches n e = ofA .searches (push ab 9 ∷ []) (((omega arith, (omega arith, tt)), omega arith), tt) n four four two four e [] tt .exact-match ab
+
+-- and then the largest value, which is set for it
+pub searches-set : (n : ℕ) → buildSays wordsA four four two four ≡ 0 ∷ n ∷ []
+    → exactSays (setAllIn ((ab, 4294967295) ∷ []) (builtImage n wordsA four four two four)) ab ≡ 0 ∷ 4294967295 ∷ []
+unfolding setAll runPool mapRun poolCalls insert lookup compareKeys poolMap poolForest forestBelow siblingsFrom listTree listForest word lastRecord
+searches-set n e = ofA .searches [] tt n four four two four e ((ab, 4294967295) ∷ []) (omega arith, tt) .exact-match ab

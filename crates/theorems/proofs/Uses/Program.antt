@@ -2,12 +2,12 @@
 use Prim.Native.Nat.{ℕ, suc, _+_, _≤_, _<_}
 use mathlib.Core.Path.{_≡_, refl, ap}
 use mathlib.Core.Logic.{_⊎_, inl, inr}
-use mathlib.Core.List.{List, [], _∷_}
+use mathlib.Core.List.{List, [], _∷_, _++_, cons-ne-nil}
 use mathlib.Core.Option.{none, some}
 use native.Mathlib.Omega.{arith}
 use lib.ListN.{length}
 use Rattle.keymap.specs.Key.{compareKeys}
-use Rattle.keymap.specs.Map.{insert, insertAll}
+use Rattle.keymap.specs.Map.{Entry, insert, insertAll}
 use Rattle.keymap.specs.Prefixes.{level, deepest, levels, prefixes}
 use Rattle.lines.specs.Bytes.{holds, stretch}
 use Rattle.lines.specs.Decimal.{decimalFrom, decimal, areDigits, valueAfter, leadingZero, isDecimal, numberIn}
@@ -16,11 +16,11 @@ use Rattle.lines.specs.Text.{linesOf, entryLines}
 use Rattle.lines.specs.Writing.{tabLine, tabText, mapText}
 use Rattle.lines.proofs.Worked.{ascii}
 use Rattle.catalogue.specs.Limits.{fileLimit, programCapacity}
-use Rattle.catalogue.specs.TextAnswers.{entriesIn, textMap}
-use Rattle.catalogue.specs.TextCases.{bad, Whole, FirstRefusal}
+use Rattle.catalogue.specs.TextAnswers.{entriesIn, AllEntries, textMap}
+use Rattle.catalogue.specs.TextCases.{bad, empty, full, Whole, FirstRefusal}
 use Rattle.catalogue.specs.Program.{tooLongText, refusedText, programText}
 use Rattle.theorems.proofs.Program.{program-writes}
-use Rattle.theorems.proofs.Uses.Values.{ab, b}
+use Rattle.theorems.proofs.Uses.Values.{a, ab, b}
 
 -- "File `b`TAB`3`LF`ab`TAB`7`LF"
 abbrev file : List ℕ
@@ -61,6 +61,51 @@ pub refused : programText (some leading) ≡ ascii "refused 9 line 1\n"
 unfolding ascii decimalFrom decimal refusedText stops
 refused = program-writes .refused leading stops
 
+-- "a", TAB, "1", LF, "b", TAB, "2", LF, TAB, "3", LF: a line of the empty key behind two that are pushed
+abbrev third : List ℕ
+third = 97 ∷ 9 ∷ 49 ∷ 10 ∷ 98 ∷ 9 ∷ 50 ∷ 10 ∷ 9 ∷ 51 ∷ 10 ∷ []
+
+unfoldable stops-third : FirstRefusal programCapacity third
+unfolding compareKeys insert insertAll level deepest levels prefixes holds stretch areDigits valueAfter leadingZero isDecimal numberIn keyPart numberPart tabEntry linesOf entryLines entriesIn
+stops-third = record {
+  short = omega arith;
+  before = (97 ∷ 9 ∷ 49 ∷ []) ∷ (98 ∷ 9 ∷ 50 ∷ []) ∷ [];
+  line = 9 ∷ 51 ∷ [];
+  after = [];
+  cut = refl;
+  entries = (((a, 1), refl, cons-ne-nil 97 []), (((b, 2), refl, cons-ne-nil 98 []), tt));
+  few = omega arith;
+  number = 3;
+  cause = empty ([], 3) refl refl refl;
+}
+
+pub refused-empty : programText (some third) ≡ ascii "refused 3 line 3\n"
+unfolding ascii decimalFrom decimal refusedText stops-third
+refused-empty = program-writes .refused third stops-third
+
+-- of any file: a key that would be the record 2,049 and more is refused 4, with the number of its line
+pub refused-full : (text : List ℕ) (before : List (List ℕ)) (line : List ℕ) (after : List (List ℕ)) (e : Entry)
+    → length text ≤ 65536
+    → entryLines text ≡ before ++ (line ∷ after)
+    → AllEntries before
+    → length (prefixes (insertAll (entriesIn before) [])) ≤ 2048
+    → tabEntry line ≡ some e
+    → ¬ (e .0 ≡ [])
+    → 2048 < length (prefixes (insert (e .0) (e .1) (insertAll (entriesIn before) [])))
+    → programText (some text) ≡ refusedText 4 (1 + length before)
+refused-full text before line after e short cut entries few read nonempty many =
+    program-writes .refused text (record {
+      short = short;
+      before = before;
+      line = line;
+      after = after;
+      cut = cut;
+      entries = entries;
+      few = few;
+      number = 4;
+      cause = full e read nonempty many refl;
+    })
+
 pub unread : programText none ≡ ascii "no file\n"
 unfolding ascii
 unread = program-writes .unread
@@ -83,3 +128,7 @@ three text = go (program-writes .cases text)
 -- a file of nine bytes has a listing of at most ten
 pub fits : length (mapText (textMap file)) ≤ 10
 fits = program-writes .fits file
+
+-- and no file has one that is longer by two
+pub fits-any : (text : List ℕ) → length (mapText (textMap text)) < length text + 2
+fits-any text = omega (arith, program-writes .fits text)

@@ -97,27 +97,35 @@ pub longest-room : (longestSays imageA a (9 ∷ []) ≡ 8 ∷ []) × (longestOut
 unfolding longestPrefixIn commonOfAll commonPrefix beginning keep beginsWith
 longest-room = onA .longest-prefix a (9 ∷ [])
 
+none-ac : longestPrefixIn ac mapA ≡ none
+unfolding longestPrefixIn commonOfAll beginning keep beginsWith
+none-ac = refl
+
 -- no key begins with "ac", and those that begin with the empty query have nothing in common
-pub no-longest :
-    ((¬ SomeBegins ac mapA) ⊎ LongestCommon (beginning ac mapA) [])
+pub no-longest : ((¬ SomeBegins ac mapA) ⊎ LongestCommon (beginning ac mapA) [])
     × (¬ SomeBegins ac mapA → longestPrefixIn ac mapA ≡ none)
     × (LongestCommon (beginning [] mapA) [] → longestPrefixIn [] mapA ≡ none)
-unfolding longestPrefixIn commonOfAll beginning keep beginsWith
-no-longest = (onA .no-longest ac .0 refl, λ n. onA .no-longest ac .1 (inl n), λ l. onA .no-longest [] .1 (inr l))
+no-longest = (onA .no-longest ac .0 none-ac, λ n. onA .no-longest ac .1 (inl n), λ l. onA .no-longest [] .1 (inr l))
 
 -- "common prefixes of "abc" after 0: "ab" 7; after 2: no match"
 pub common-prefix : commonSays imageA abc 0 ∷ commonPart imageA abc 0 ∷ commonSays imageA abc 2 ∷ commonPart imageA abc 2 ∷ [] ≡ (0 ∷ 2 ∷ 7 ∷ []) ∷ ab ∷ (0 ∷ []) ∷ [] ∷ []
 unfolding commonPrefixIn keep beginsWith
 common-prefix = λ i. onA .common-prefix abc 0 .0 i ∷ onA .common-prefix abc 0 .1 i ∷ onA .common-prefix abc 2 .0 i ∷ onA .common-prefix abc 2 .1 i ∷ []
 
-pub shortest : ShortestWithin abc 0 mapA (ab, 7) × (commonPrefixIn abc 0 mapA ≡ some (ab, 7))
+pub shortest : (e : Entry) → (commonPrefixIn abc 0 mapA ≡ some e → ShortestWithin abc 0 mapA e) × (ShortestWithin abc 0 mapA e → commonPrefixIn abc 0 mapA ≡ some e)
+shortest e = (onA .shortest abc 0 e .0, onA .shortest abc 0 e .1)
+
+pub shortest-ab : ShortestWithin abc 0 mapA (ab, 7)
 unfolding commonPrefixIn keep beginsWith
-shortest = (onA .shortest abc 0 (ab, 7) .0 refl, onA .shortest abc 0 (ab, 7) .1 (onA .shortest abc 0 (ab, 7) .0 refl))
+shortest-ab = shortest (ab, 7) .0 refl
+
+none-abc : commonPrefixIn abc 2 mapA ≡ none
+unfolding commonPrefixIn keep beginsWith
+none-abc = refl
 
 pub no-shortest : ((e : Entry) → In e mapA → beginsWith (e .0) abc ≡ true → ¬ (2 < length (e .0)))
     × (((e : Entry) → In e mapA → beginsWith (e .0) a ≡ true → ¬ (0 < length (e .0))) → commonPrefixIn a 0 mapA ≡ none)
-unfolding commonPrefixIn keep beginsWith
-no-shortest = (onA .no-shortest abc 2 .0 refl, onA .no-shortest a 0 .1)
+no-shortest = (onA .no-shortest abc 2 .0 none-abc, onA .no-shortest a 0 .1)
 
 -- a listing of "a" begins at node 2; a postfix listing of "ab" is finished at once, and so is one where there is no path
 pub start : startSays Predictive imageA a ∷ startSays Postfix imageA a ∷ startSays Postfix imageA ab ∷ startSays Predictive imageA ax ∷ [] ≡ (0 ∷ 0 ∷ 2 ∷ 0 ∷ []) ∷ (0 ∷ 1 ∷ 2 ∷ 0 ∷ []) ∷ (0 ∷ 1 ∷ []) ∷ (0 ∷ 0 ∷ []) ∷ []
@@ -170,10 +178,13 @@ pub least-ab : NextAfter ab mapA (b, 3)
 unfolding leastAbove beginning keep beginsWith compareKeys
 least-ab = onA .least Predictive [] ab (b, 3) .0 refl
 
--- no key stands above "b"
-pub no-least : ((e : Entry) → In e mapA → ¬ Below b (e .0)) × (((e : Entry) → In e (longer a mapA) → ¬ Below ab (e .0)) → leastAbove ab (longer a mapA) ≡ none)
+none-b : leastAbove b (beginning [] mapA) ≡ none
 unfolding leastAbove beginning keep beginsWith compareKeys
-no-least = (onA .no-least Predictive [] b .0 refl, onA .no-least Postfix a ab .1)
+none-b = refl
+
+-- no key stands above "b"
+pub no-least : ((e : Entry) → In e (beginning [] mapA) → ¬ Below b (e .0)) × (((e : Entry) → In e (longer a mapA) → ¬ Below ab (e .0)) → leastAbove ab (longer a mapA) ≡ none)
+no-least = (onA .no-least Predictive [] b .0 none-b, onA .no-least Postfix a ab .1)
 
 -- the key of a cursor: "ab" in a predictive listing, "b" in a postfix listing of "a"
 pub cursor-key : keySays imageA (Open Postfix 2 4) four ∷ keyOut imageA (Open Postfix 2 4) four ∷ keySays imageA (Open Predictive 2 4) four ∷ keyOut imageA (Open Predictive 2 4) four ∷ keySays imageA (Open Predictive 2 4) (9 ∷ []) ∷ []

@@ -1,12 +1,12 @@
 -- Uses of demand 3: A's pushes into a pool of capacity 3, and B's into a longer one. Assumes nothing.
 use Prim.Native.Nat.{ℕ, _≤_, _<_}
-use mathlib.Core.Path.{_≡_, refl, sym, _∙_}
+use mathlib.Core.Path.{_≡_, refl, sym, subst, _∙_}
 use mathlib.Core.List.{List, [], _∷_, cons-ne-nil}
 use native.Mathlib.Omega.{arith}
 use lib.ListN.{length, getD, replicate}
 use Rattle.keymap.specs.Members.{In, Distinct, here}
 use Rattle.keymap.specs.Key.{Key, Bytes, compareKeys, beginsWith}
-use Rattle.keymap.specs.Map.{Rising, insert}
+use Rattle.keymap.specs.Map.{Map, Rising, insert}
 use Rattle.keymap.specs.Queries.{SomeBegins}
 use Rattle.keymap.specs.Prefixes.{level, deepest, levels, prefixes}
 use Rattle.keymap.specs.Paths.{nodes, pathOf}
@@ -94,8 +94,7 @@ room = (ofA .room c (cons-ne-nil 99 []) 1 .1 (omega arith), λ f. omega (arith, 
 
 -- the prefixes are no more than the capacity
 pub within : length (prefixes mapA) ≤ 3
-unfolding mapRun poolCalls insert compareKeys prefixes levels level deepest
-within = ofA .within
+within = subst (λ (m : Map). length (prefixes m) ≤ 3) mapAfterA (ofA .within)
 
 -- a build of A needs three entries, values and scratch entries and one word
 pub needs : (buildSays (poolAfter poolA callsA) four four two four ≡ 0 ∷ 3 ∷ []) × (buildSays (poolAfter poolA callsA) four four two two ≡ 5 ∷ [])

@@ -81,13 +81,19 @@ no-room = (every-write (ab, 7) four .refuses .1 (omega arith), λ out s. every-w
 abbrev text : List ℕ
 text = 97 ∷ 98 ∷ 10 ∷ 98 ∷ []
 
-pub cuts : (0 < 3) × (3 ≤ 4) × (linesOf text ≡ ab ∷ linesOf b)
+pub first-at : nextLineSays text 0 ≡ 0 ∷ 2 ∷ 3 ∷ []
 unfolding nextLineSays linesOf
-cuts = every-cut text 0 .cuts 2 3 refl
+first-at = refl
+
+pub cuts : (0 < 3) × (3 ≤ 4) × (linesOf text ≡ ab ∷ linesOf b)
+cuts = every-cut text 0 .cuts 2 3 first-at
+
+pub last-at : nextLineSays text 3 ≡ 0 ∷ 4 ∷ 4 ∷ []
+unfolding nextLineSays linesOf
+last-at = refl
 
 pub cuts-last : (3 < 4) × (4 ≤ 4) × (linesOf b ≡ b ∷ linesOf [])
-unfolding nextLineSays linesOf
-cuts-last = every-cut text 3 .cuts 4 4 refl
+cuts-last = every-cut text 3 .cuts 4 4 last-at
 
 -- each line that is told begins further on, and in the text
 pub cuts-on : (at end next : ℕ) → nextLineSays text at ≡ 0 ∷ end ∷ next ∷ [] → (at < next) × (next ≤ 4)

@@ -29,6 +29,7 @@ import subprocess
 import sys
 from concurrent.futures import ThreadPoolExecutor
 from pathlib import Path
+from threading import Event
 
 from edits import PARTS, ROOT, Unfit, edits, is_named
 
@@ -184,6 +185,43 @@ def try_edit(edit):
     return edit, verdict, cpu, doubts(*touched(edit, made), found), found
 
 
+class Run:
+    """All tasks for some edits, on so many workers: what the crates depend on is built in turn, and beside that each crate is seeded once
+    its dependencies are built, and its edits are tried once it is seeded. The seed of a crate is begun before the edits of the one before
+    it, so that no worker waits for it."""
+
+    def __init__(self, tried, workers):
+        self.crates = [crate for crate in DEPENDENCIES if any(edit.crate == crate for edit in tried)]
+        below = {name for crate in self.crates for name in DEPENDENCIES[crate]}
+        self.built = {name: Event() for name in DEPENDENCIES if name in below}
+        self.building = workers.submit(self.build)
+        self.seeds, self.tries, former = {}, {}, None
+        for crate in [*self.crates, None]:
+            if crate:
+                self.seeds[crate] = workers.submit(self.seed, crate)
+            if former:
+                self.tries[former] = [workers.submit(self.attempt, edit) for edit in tried if edit.crate == former]
+            former = crate
+
+    def build(self):
+        """The crate that is not proved, or None. `rt check` proves what the named crate depends on first."""
+        unproved = None
+        for name, done in self.built.items():
+            if unproved is None and subprocess.run(['rt', 'check', name], cwd=ROOT, stdout=subprocess.DEVNULL, stderr=subprocess.DEVNULL).returncode:
+                unproved = name
+            done.set()
+        return unproved
+
+    def seed(self, crate):
+        for name in DEPENDENCIES[crate]:
+            if name in self.built:
+                self.built[name].wait()
+        return seed(crate)
+
+    def attempt(self, edit):
+        return try_edit(edit) if self.seeds[edit.crate].result()[1] else None
+
+
 def main():
     ask = argparse.ArgumentParser(prog='tools/try_wrong.sh', description=__doc__, formatter_class=argparse.RawDescriptionHelpFormatter)
     ask.add_argument('crates', nargs='*', metavar='CRATE')
@@ -195,23 +233,22 @@ def main():
     if not (OWN / 'bin/rattle').is_file():
         sys.exit(f'the toolchain has nothing for this machine at {OWN}')
     tried = list(edits(asked.crates or DEPENDENCIES))
-    crates = list(dict.fromkeys(edit.crate for edit in tried))
-    below = sorted({name for crate in crates for name in DEPENDENCIES[crate] if name in DEPENDENCIES})
-    if below and subprocess.run(['rt', 'check', *below], cwd=ROOT, stdout=subprocess.DEVNULL, stderr=subprocess.DEVNULL).returncode:
-        sys.exit(f'not proved: see rt check {" ".join(below)}')
     table, refused, used = ['crate\tedit\tverdict\tcpu-s\tdoubts\trefused for itself'], 0, 0.0
     with ThreadPoolExecutor(asked.jobs) as workers:
-        for said, proved in workers.map(seed, crates):
+        run = Run(tried, workers)
+        for crate in run.crates:
+            said, proved = run.seeds[crate].result()
             print(said, flush=True)
             if not proved:
                 workers.shutdown(cancel_futures=True)
-                sys.exit(1)
-        for edit, verdict, cpu, doubtful, found in workers.map(try_edit, tried):
-            tail = f' [{" ".join(doubtful)}]' if doubtful else ''
-            print(f'{edit.crate}/{edit.label}: {verdict}: {", ".join(edit.refuses)} ({cpu:.1f} s){tail}', flush=True)
-            names = ' '.join(dict.fromkeys(f'{name}/{need}' if '::' in name else name for name, need, _ in found))
-            table.append('\t'.join([edit.crate, edit.label, verdict, f'{cpu:.1f}', ' '.join(doubtful), names]))
-            refused, used = refused + (verdict == 'refused'), used + cpu
+                unbuilt = run.building.result()
+                sys.exit(f'not proved: see rt check {unbuilt or crate}')
+            for edit, verdict, cpu, doubtful, found in (task.result() for task in run.tries[crate]):
+                tail = f' [{" ".join(doubtful)}]' if doubtful else ''
+                print(f'{edit.crate}/{edit.label}: {verdict}: {", ".join(edit.refuses)} ({cpu:.1f} s){tail}', flush=True)
+                names = ' '.join(dict.fromkeys(f'{name}/{need}' if '::' in name else name for name, need, _ in found))
+                table.append('\t'.join([edit.crate, edit.label, verdict, f'{cpu:.1f}', ' '.join(doubtful), names]))
+                refused, used = refused + (verdict == 'refused'), used + cpu
     if asked.table:
         Path(asked.table).write_text('\n'.join(table) + '\n', 'utf-8')
     print(f'{used:.0f} CPU seconds for the edits')

@@ -4,6 +4,8 @@ pub mod Select
 pub mod Nodes
 pub mod Words
 pub mod Digits
+pub mod Fields
+pub mod ByteRanks
 pub mod Put
 pub mod Degrees
 pub mod MapNodes

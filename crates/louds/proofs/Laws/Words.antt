@@ -1,6 +1,7 @@
 -- What the machine counts in a word, and the rank in words: the ones of a masked word are its lowest bits', counted one by one;
 -- so the ones before a place are those of the whole words before it and of the lowest part of its own.
 --
+--     ones-bit      one digit counts itself
 --     ones-low      the lowest r bits, counted one by one and as the machine counts a masked word
 --     ones-in-word  the lowest part of a word more
 --     ones-whole    one whole word more
@@ -30,7 +31,7 @@ use Rattle.louds.specs.Rank.{onesBefore}
 
 -- ---- one word
 
-ones-bit : (r : ℕ) → r < 2 → ones r ≡ r
+pub ones-bit : (r : ℕ) → r < 2 → ones r ≡ r
 unfolding ones
 ones-bit zero h = refl
 ones-bit (suc zero) h = refl

@@ -7,7 +7,9 @@
 --     kth-find        one of the two holds
 --     kth-told        what the answer "here" tells
 --     kth-missing     what the answer "missing" tells
+--     kth-longer      found among fewer places, found among more
 --     kth-exists      k marks, so the k-th is there
+--     kth-bare        where there are no marks, none is the k-th
 --     kth-ext         only the places below len matter
 --     rank-kth        the rank of what was selected, where a place bears at most one mark
 --     kth-rank        the place selected by its rank
@@ -15,13 +17,12 @@
 --     kth-back        counted down from the k-th mark, the j-th is k - j marks back
 --     onward-at       from its place on, `onward` keeps the marks
 --     onward-before   before it, none
+--     sumBelow-onward the marks before it and those from it on
 --     kth-onward      the k-th mark from a place on, by the marks before it
 --     kth-start       from place 0 on
 --     kth-next        the k-th mark past the j-th is the mark j + k
 --     marks-zero      the marks of the zeros
 --     marks-one       the marks of the ones
---     mark-hit        a bit that equals v bears one
---     mark-miss       another bears none
 --
 -- Assumes nothing.
 use mathlib.Core.Path.{_≡_, refl, sym, ap, _∙_, subst}
@@ -36,7 +37,6 @@ use Rattle.keymap.proofs.Laws.Sums.{sumBelow-zero, sumBelow-suc, sumBelow-next,
 use Rattle.louds.specs.declared.Spot.the-variants.{At, Missing}
 use Rattle.louds.specs.Rank.{gap}
 use Rattle.louds.specs.Select.{kth, onward, marks}
-use Rattle.louds.proofs.Laws.Rank.{gap-zero, bit-gap}
 
 module _ (m : ℕ → ℕ) where
   -- ---- what settles the answer
@@ -102,6 +102,9 @@ module _ (m : ℕ → ℕ) where
           let z : f .0 ≡ p = cc in
           subst (λ (x : ℕ). Found len k x) z g
 
+  pub kth-longer : (short len k p : ℕ) → short ≤ len → kth m short k ≡ At p → kth m len k ≡ At p
+  kth-longer short len k p h e = let f = kth-told short k p e in kth-at len p k (le-trans (f .inside) h) (f .before) (f .upto)
+
   pub kth-missing : (len k : ℕ) → 0 < k → kth m len k ≡ Missing → sumBelow m len < k
   kth-missing len k h e = ⊎-elim (λ f. absurd (never (f .0) (f .1 .answer))) (λ s. s .few) (kth-find len k h)
     where
@@ -116,6 +119,9 @@ module _ (m : ℕ → ℕ) where
     pub inside : p < len
     pub rank : sumBelow m p + 1 ≡ k
     pub marked : m p ≡ 1
+
+pub kth-bare : (m : ℕ → ℕ) (len k : ℕ) → ((i : ℕ) → i < len → m i ≡ 0) → kth m len k ≡ Missing
+kth-bare m len k none = ⊎-elim (λ z. ap (kth m len) z ∙ kth-zero m len) (λ s. kth-none m len k (omega (arith, s, sumBelow-none m len none))) (eq-zero-or-pos k)
 
 pub kth-ext : (m n : ℕ → ℕ) (len k : ℕ) → ((j : ℕ) → j < len → m j ≡ n j) → kth m len k ≡ kth n len k
 kth-ext m n len k same = ⊎-elim (λ z. ap (kth m len) z ∙ kth-zero m len ∙ sym (ap (kth n len) z ∙ kth-zero n len)) (λ h. ⊎-elim found short (kth-find m len k h)) (eq-zero-or-pos k)
@@ -164,7 +170,7 @@ module _ (m : ℕ → ℕ) (from : ℕ) where
   unfolding onward
   onward-before i h = simp (lt-leb _ _ h)
 
-  sumBelow-onward : (p : ℕ) → from ≤ p → sumBelow m from + sumBelow (onward from m) p ≡ sumBelow m p
+  pub sumBelow-onward : (p : ℕ) → from ≤ p → sumBelow m from + sumBelow (onward from m) p ≡ sumBelow m p
   sumBelow-onward p h =
       let c : ℕ = p - from in
       let e : p ≡ from + c = omega arith in
@@ -209,16 +215,3 @@ module _ (b : ℕ → ℕ) where
   pub marks-one : marks b 1 ≡ b
   unfolding marks
   marks-one = refl
-
-module _ (b : ℕ → ℕ) (small : (i : ℕ) → b i ≤ 1) where
-  pub mark-hit : (v p : ℕ) → b p ≡ v → marks b v p ≡ 1
-  unfolding marks
-  mark-hit zero p e = gap-zero b p e
-  mark-hit (suc zero) p e = e
-  mark-hit (suc (suc v)) p e = absurd (omega (arith, e, small p))
-
-  pub mark-miss : (v p : ℕ) → (b p ≡ v → ⊥) → marks b v p ≡ 0
-  unfolding marks
-  mark-miss zero p e = omega (arith, small p, bit-gap b small p)
-  mark-miss (suc zero) p e = omega (arith, small p)
-  mark-miss (suc (suc v)) p e = refl

@@ -1,24 +1,22 @@
--- `louds::select::bit_from` meets its contract. The invariant: of the k marks at `from` or beyond, all but `left` stand before `p`.
--- So a marked place where one is left is the k-th, and at the end there are fewer than k. Assumes nothing.
+-- `louds::select::bit_from` meets its contract. The invariant: of the k bits sought all but `left` stand before word `w`, whose own are the ones of `x`, as many as `count`. Assumes nothing.
 use mathlib.Core.Path.{_≡_, sym, ap, _∙_}
-use mathlib.Core.Logic.{⊎-elim}
-use Prim.Native.Nat.{_≤_, _<_, _+_, _-_}
-use native.Mathlib.Nat.{le-refl}
+use Prim.Native.Nat.{_+_, _-_, _<_}
 use native.Mathlib.Omega.{arith}
 use borrow.Author.Needs.{needs}
-use Rattle.keymap.specs.Bits.{bit, sumBelow}
-use Rattle.keymap.proofs.Laws.Sums.{sumBelow-none, sumBelow-next, sumBelow-mono}
-use Rattle.keymap.proofs.Laws.Bits.{bit-small}
+use lib.ListN.{length}
+use lib.Count.{ones}
+use Rattle.keymap.specs.Bits.{bit}
 use Rattle.louds.specs.Select.{kth, onward, marks}
-use Rattle.louds.proofs.Laws.Select.{kth-at, kth-none, kth-zero, onward-at, onward-before, mark-hit, mark-miss}
+use Rattle.louds.proofs.Laws.Select.{kth-zero}
+use Rattle.louds.proofs.Laws.Passing.{Passed, passed-first, passed-next, passed-short, passed-out, passed-at, passed-past, nothing-behind, zeros-beyond}
 use Rattle.louds.proofs.select.bit_from.Statement.{statement}
 use Rattle.louds.proofs.select.bit_from.Tie as tie
 
 abbrev Inv-loop : tie.InvT-loop
-Inv-loop words len v from k left₀ p₀ left p = (from ≤ p) × (0 < left) × (sumBelow (onward from (marks (bit words) v)) p + left ≡ k)
+Inv-loop words len v from k w₀ before x₀ count₀ left₀ w x count left = Passed words len v from k w x left × (count ≡ ones x)
 
 abbrev μ-loop : tie.MeasureT-loop
-μ-loop words len v from k left₀ p₀ left p = len - p
+μ-loop words len v from k w₀ before x₀ count₀ left₀ w x count left = length words - w
 
 returns : tie.Need-returns Inv-loop μ-loop
 returns c =
@@ -26,54 +24,110 @@ returns c =
     let m = onward (a .from) (marks (bit (a .words .now)) (a .v)) in
     sym (ap (kth m (a .len)) (c .if1 .taken) ∙ kth-zero m (a .len))
 
+returns-2 : tie.Need-returns-2 Inv-loop μ-loop
+returns-2 c = let a = c .before .before .before .args in nothing-behind (a .words .now) (a .len) (a .v) (a .from) (a .k) (c .if2 .taken)
+
+among-zeros-requires : tie.Need-among-zeros-requires Inv-loop μ-loop
+among-zeros-requires c κs = search needs
+
+returns-3 : tie.Need-returns-3 Inv-loop μ-loop
+returns-3 c =
+    let a = c .before .before .before .before .before .args in
+    c .among-zeros .ensures ∙ zeros-beyond (a .words .now) (a .len) (a .v) (a .from) (a .k) (c .before .if3 .taken)
+
+marks-in-requires : tie.Need-marks-in-requires Inv-loop μ-loop
+marks-in-requires c κs = search needs
+
+shr-x : tie.Need-shr-x Inv-loop μ-loop
+shr-x c = search needs
+
+shl-x : tie.Need-shl-x Inv-loop μ-loop
+shl-x c = search needs
+
+ones-in-requires : tie.Need-ones-in-requires Inv-loop μ-loop
+ones-in-requires c κs = search needs
+
 loop-holds : tie.Need-loop-holds Inv-loop μ-loop
 loop-holds c =
-    let a = c .before .before .args in
-    let m = marks (bit (a .words .now)) (a .v) in
-    (le-refl (a .from), omega arith, omega (arith, sumBelow-none (onward (a .from) m) (a .from) (λ j l. onward-before m (a .from) j l)))
+    let a = c .before .before .before .before .before .before .args in (
+      passed-first (a .words .now) (a .len) (a .v) (a .from) (a .k) (c .before .marks-in .result) (c .before .before .before .if2 .left) (omega (arith, c .before .before .before .before .if1 .left)) (c .before .marks-in .ensures),
+      c .ones-in .ensures,
+    )
 
-bit-at-requires : tie.Need-bit-at-requires Inv-loop μ-loop
-bit-at-requires c κs = search needs
+-- of a word that has too few, the ones are taken from what is left
+module _ (c : tie.In-loop Inv-loop μ-loop) where
+  some : 0 < c .before .loop .left - c .before .loop .count
+  some = omega (arith, c .loop-test .taken)
 
-returns-2 : tie.Need-returns-2 Inv-loop μ-loop
-returns-2 c =
-    let a = c .before .before .before .before .before .before .before .args in
-    let l = c .before .before .before .before .loop in
-    let b = bit (a .words .now) in
-    let m = onward (a .from) (marks b (a .v)) in
-    let one = onward-at (marks b (a .v)) (a .from) (l .p) (l .inv .0) ∙ mark-hit b (bit-small (a .words .now)) (a .v) (l .p) (sym (c .before .before .bit-at .ensures) ∙ c .before .if2 .taken) in
-    sym (kth-at m (a .len) (l .p) (a .k) (c .before .before .before .loop-test .taken) (omega (arith, l .inv, c .if3 .taken)) (omega (arith, l .inv, c .if3 .taken, one)))
+  fewer : c .before .loop .left - c .before .loop .count + ones (c .before .loop .x) ≡ c .before .loop .left
+  fewer = omega (arith, c .before .loop .inv .1, c .loop-test .taken)
+
+returns-4 : tie.Need-returns-4 Inv-loop μ-loop
+returns-4 c =
+    let a = c .before .before .before .before .before .before .before .before .before .args in
+    let l = c .before .before .loop in
+    passed-short (a .words .now) (a .len) (a .v) (a .from) (a .k) (l .w) (l .x) (l .left) (l .inv .0) (c .if4 .taken) (omega (arith, l .inv .1, c .before .loop-test .taken))
 
 sub-left : tie.Need-sub-left Inv-loop μ-loop
 sub-left c = omega arith
 
-add-p : tie.Need-add-p Inv-loop μ-loop
-add-p c = omega arith
+add-w : tie.Need-add-w Inv-loop μ-loop
+add-w c = omega arith
+
+mul-among-zeros : tie.Need-mul-among-zeros Inv-loop μ-loop
+mul-among-zeros c = omega (arith, c .before .if4 .left)
+
+among-zeros-requires-2 : tie.Need-among-zeros-requires-2 Inv-loop μ-loop
+among-zeros-requires-2 c κs = search needs
+
+returns-5 : tie.Need-returns-5 Inv-loop μ-loop
+returns-5 c =
+    let a = c .before .before .before .before .before .before .before .before .before .before .before .args in
+    let t = c .before .before .before in
+    let l = t .before .loop in
+    c .among-zeros2 .ensures ∙ passed-out (a .words .now) (a .len) (a .v) (a .from) (a .k) (l .w) (l .x) (l .left) (l .inv .0) (l .left - l .count) (c .before .if5 .taken) (some t) (fewer t)
+
+marks-in-requires-2 : tie.Need-marks-in-requires-2 Inv-loop μ-loop
+marks-in-requires-2 c κs = search needs
+
+ones-in-requires-2 : tie.Need-ones-in-requires-2 Inv-loop μ-loop
+ones-in-requires-2 c κs = search needs
 
 loop-less : tie.Need-loop-less Inv-loop μ-loop
 loop-less c = omega arith
 
 loop-again : tie.Need-loop-again Inv-loop μ-loop
 loop-again c =
-    let a = c .before .before .before .before .before .before .args in
-    let l = c .before .before .before .loop in
-    let b = bit (a .words .now) in
-    let next = sumBelow-next (onward (a .from) (marks b (a .v))) (l .p) in
-    let here = onward-at (marks b (a .v)) (a .from) (l .p) (l .inv .0) in (
-      omega (arith, l .inv),
-      ⊎-elim (λ t. omega (arith, l .inv, t)) (λ e. omega (arith, l .inv, e)) (c .if2 .came),
-      ⊎-elim
-          (λ t. omega (arith, l .inv, next, here, mark-hit b (bit-small (a .words .now)) (a .v) (l .p) (sym (c .before .bit-at .ensures) ∙ t .0 .taken)))
-          (λ e. omega (arith, l .inv, next, here, mark-miss b (bit-small (a .words .now)) (a .v) (l .p) (λ q. e .0 .left (c .before .bit-at .ensures ∙ q))))
-          (c .if2 .came),
+    let a = c .before .before .before .before .before .before .before .before .before .before .before .before .args in
+    let t = c .before .before .before .before in
+    let l = t .before .loop in (
+      passed-next (a .words .now) (a .len) (a .v) (a .from) (a .k) (l .w) (l .x) (l .left) (l .inv .0) (c .before .marks-in2 .result) (l .left - l .count) (c .before .before .before .if4 .left) (some t) (fewer t) (c .before .marks-in2 .ensures),
+      c .ones-in2 .ensures,
     )
 
-returns-3 : tie.Need-returns-3 Inv-loop μ-loop
-returns-3 c =
-    let a = c .before .before .before .before .args in
-    let l = c .before .loop in
-    let m = onward (a .from) (marks (bit (a .words .now)) (a .v)) in
-    sym (kth-none m (a .len) (a .k) (omega (arith, l .inv, sumBelow-mono m (c .loop-test .left))))
+mul-start : tie.Need-mul-start Inv-loop μ-loop
+mul-start c = omega (arith, c .before .loop .inv .0 .inside)
+
+nth-one-requires : tie.Need-nth-one-requires Inv-loop μ-loop
+nth-one-requires c κs = let l = c .before .loop in (l .inv .0 .some, omega (arith, l .inv .1, c .loop-test .left))
+
+sub-if6 : tie.Need-sub-if6 Inv-loop μ-loop
+sub-if6 c = omega (arith, c .before .before .loop .inv .0 .inside)
+
+add-t22 : tie.Need-add-t22 Inv-loop μ-loop
+add-t22 c = omega (arith, c .before .before .before .loop .inv .0 .inside)
+
+returns-6 : tie.Need-returns-6 Inv-loop μ-loop
+returns-6 c =
+    let a = c .before .before .before .before .before .before .before .before .before .before .args in
+    let l = c .before .before .before .loop in
+    passed-at (a .words .now) (a .len) (a .v) (a .from) (a .k) (l .w) (l .x) (l .left) (l .inv .0) (c .before .nth-one .result) (c .before .nth-one .ensures) (omega (arith, c .if6 .taken))
+
+returns-7 : tie.Need-returns-7 Inv-loop μ-loop
+returns-7 c =
+    let a = c .before .before .before .before .before .before .before .before .before .before .args in
+    let l = c .before .before .before .loop in
+    passed-past (a .words .now) (a .len) (a .v) (a .from) (a .k) (l .w) (l .x) (l .left) (l .inv .0) (c .before .nth-one .result) (c .before .nth-one .ensures) (λ h. omega (arith, h, c .if6 .left))
 
 pub bit-from-spec : {M : Type 1} → statement M
 bit-from-spec =
@@ -82,11 +136,27 @@ bit-from-spec =
     Inv-loop
     μ-loop
     returns
-    loop-holds
-    bit-at-requires
     returns-2
+    among-zeros-requires
+    returns-3
+    marks-in-requires
+    shr-x
+    shl-x
+    ones-in-requires
+    loop-holds
+    returns-4
     sub-left
-    add-p
+    add-w
+    mul-among-zeros
+    among-zeros-requires-2
+    returns-5
+    marks-in-requires-2
+    ones-in-requires-2
     loop-less
     loop-again
-    returns-3)
+    mul-start
+    nth-one-requires
+    sub-if6
+    add-t22
+    returns-6
+    returns-7)

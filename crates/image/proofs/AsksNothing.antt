@@ -5,6 +5,8 @@ use Rattle.image.proofs.accept
 use Rattle.image.proofs.accept.Reads as accept-reads
 use Rattle.image.proofs.acceptance.is_image
 use Rattle.image.proofs.acceptance.is_image.Reads as is-image-reads
+use Rattle.image.proofs.acceptance.lengths_fit
+use Rattle.image.proofs.acceptance.lengths_fit.Reads as lengths-fit-reads
 use Rattle.image.proofs.build
 use Rattle.image.proofs.build.Reads as build-reads
 
@@ -16,3 +18,6 @@ is-image-asks-nothing κs a = tt
 
 pub build-asks-nothing : (κs : Lfts 5) (a : ArgsD build.signature κs) → build-reads.Pre κs a
 build-asks-nothing κs a = tt
+
+pub lengths-fit-asks-nothing : (κs : Lfts 3) (a : ArgsD lengths_fit.signature κs) → lengths-fit-reads.Pre κs a
+lengths-fit-asks-nothing κs a = tt

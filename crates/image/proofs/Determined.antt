@@ -12,6 +12,9 @@ use Rattle.image.proofs.accept.Reads as accept-reads
 use Rattle.image.proofs.acceptance.is_image
 use Rattle.image.proofs.acceptance.is_image.Kinds as is-image-kinds
 use Rattle.image.proofs.acceptance.is_image.Reads as is-image-reads
+use Rattle.image.proofs.acceptance.lengths_fit
+use Rattle.image.proofs.acceptance.lengths_fit.Kinds as lengths-fit-kinds
+use Rattle.image.proofs.acceptance.lengths_fit.Reads as lengths-fit-reads
 use Rattle.image.proofs.build
 use Rattle.image.proofs.build.Kinds as build-kinds
 use Rattle.image.proofs.build.Reads as build-reads
@@ -26,6 +29,10 @@ module _ (κs : Lfts 3) where
   pub is-image-determined : (a : ArgsD is_image.signature κs) (r₁ r₂ : ResD is_image.signature κs) (s₁ s₂ : AtExit (endedOf 3 is-image-kinds.ps is-image-kinds.r) κs)
       → is-image-reads.Post κs a r₁ s₁ → is-image-reads.Post κs a r₂ s₂ → r₁ ≡ r₂
   is-image-determined a r₁ r₂ s₁ s₂ p q = p ∙ sym q
+
+  pub lengths-fit-determined : (a : ArgsD lengths_fit.signature κs) (r₁ r₂ : ResD lengths_fit.signature κs) (s₁ s₂ : AtExit (endedOf 3 lengths-fit-kinds.ps lengths-fit-kinds.r) κs)
+      → lengths-fit-reads.Post κs a r₁ s₁ → lengths-fit-reads.Post κs a r₂ s₂ → r₁ ≡ r₂
+  lengths-fit-determined a r₁ r₂ s₁ s₂ p q = p ∙ sym q
 
 -- the answer, then labels, values, words and scratch at exit
 pub build-determined : (κs : Lfts 5) (a : ArgsD build.signature κs) (r₁ r₂ : ResD build.signature κs) (s₁ s₂ : AtExit (endedOf 5 build-kinds.ps build-kinds.r) κs)

@@ -7,11 +7,13 @@ use mathlib.Core.Logic.{_↔_}
 use mathlib.Core.List.{[], _∷_}
 use Rattle.image.specs.Accept.{OfMap}
 use Rattle.image.specs.Meaning.{lent}
-use Rattle.image.specs.AcceptTest.{imageTest}
+use Rattle.image.specs.AcceptTest.{lengthsFit, imageTest}
 use Rattle.image.specs.AcceptAnswer.{saidChecked, acceptSays}
 use Rattle.image.specs.Build.{saidBuilt, buildSays, buildLabels, buildValues, buildWords, buildScratch}
 use Rattle.image.proofs.acceptance.is_image.Kinds as is-image-kinds
 use Rattle.image.proofs.acceptance.is_image.Reads as is-image-reads
+use Rattle.image.proofs.acceptance.lengths_fit.Kinds as lengths-fit-kinds
+use Rattle.image.proofs.acceptance.lengths_fit.Reads as lengths-fit-reads
 use Rattle.image.proofs.accept.Kinds as accept-kinds
 use Rattle.image.proofs.accept.Reads as accept-reads
 use Rattle.image.proofs.build.Kinds as build-kinds
@@ -19,6 +21,9 @@ use Rattle.image.proofs.build.Reads as build-reads
 
 pub is-image-says : Tells 3 is-image-kinds.ps is-image-kinds.r is-image-reads.Post (λ κs a r s. r ≡ imageTest (lent (now (a .0)) (now (a .1 .0)) (now (a .1 .1 .0))))
 is-image-says κs a r s p = p
+
+pub lengths-fit-says : Tells 3 lengths-fit-kinds.ps lengths-fit-kinds.r lengths-fit-reads.Post (λ κs a r s. r ≡ lengthsFit (lent (now (a .0)) (now (a .1 .0)) (now (a .1 .1 .0))))
+lengths-fit-says κs a r s p = p
 
 pub accept-says : Tells 3 accept-kinds.ps accept-kinds.r accept-reads.Post (λ κs a r s. (saidChecked r ≡ acceptSays (lent (now (a .0)) (now (a .1 .0)) (now (a .1 .1 .0)))) × ((saidChecked r ≡ 0 ∷ []) ↔ OfMap (lent (now (a .0)) (now (a .1 .0)) (now (a .1 .1 .0)))))
 accept-says κs a r s p = p

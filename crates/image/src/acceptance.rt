@@ -11,7 +11,7 @@ ghost use lib.ListN.{length};
 ghost use lib.Dec.{ltb};
 ghost use Rattle.keymap.specs.Label.{mark};
 ghost use Rattle.image.specs.Meaning.{lent};
-ghost use Rattle.image.specs.AcceptTest.{passesFrom, imageTest};
+ghost use Rattle.image.specs.AcceptTest.{passesFrom, lengthsFit, imageTest};
 ghost use Rattle.image.specs.WordTest.{entriesFit, Framed};
 
 // What a value adds to its label.
@@ -62,9 +62,9 @@ fn passes(labels: &[u16], values: &[u32], words: &[u64]) -> bool
     words_fit(labels, words)
 }
 
-// Whether the slices are the image of some map.
-pub fn is_image(labels: &[u16], values: &[u32], words: &[u64]) -> bool
-    ensures { λ r. ⌜ r ≡ imageTest (lent (now (labels .entry)) (now (values .entry)) (now (words .entry))) ⌝ }
+// Whether there are at most 4,096 nodes besides the root, and as many values and words as these ask for.
+pub fn lengths_fit(labels: &[u16], values: &[u32], words: &[u64]) -> bool
+    ensures { λ r. ⌜ r ≡ lengthsFit (lent (now (labels .entry)) (now (values .entry)) (now (words .entry))) ⌝ }
 {
     let n = labels.len();
     if MOST_NODES < n {
@@ -73,10 +73,17 @@ pub fn is_image(labels: &[u16], values: &[u32], words: &[u64]) -> bool
     if values.len() != n {
         return false;
     }
-    let len = 2 * n + 3;
-    if words.len() != (len + (WORD_BITS - 1)) / WORD_BITS {
+    words.len() == (2 * n + 3 + (WORD_BITS - 1)) / WORD_BITS
+}
+
+// Whether the slices are the image of some map.
+pub fn is_image(labels: &[u16], values: &[u32], words: &[u64]) -> bool
+    ensures { λ r. ⌜ r ≡ imageTest (lent (now (labels .entry)) (now (values .entry)) (now (words .entry))) ⌝ }
+{
+    if !lengths_fit(labels, values, words) {
         return false;
     }
+    let len = 2 * labels.len() + 3;
     if words[len / WORD_BITS] >> (len % WORD_BITS) != 0 {
         return false;
     }

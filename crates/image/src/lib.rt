@@ -13,6 +13,7 @@ use crate::buffers::buffers_fit;
 use crate::entries::write_entries;
 pub use acceptance::MARK;
 pub use acceptance::is_image;
+pub use acceptance::lengths_fit;
 use records::soundness::is_sound;
 use records::words::RECORD_WORDS;
 use records::words::used_count;

@@ -3,15 +3,16 @@
 --     labelsRise-is             two labels
 --     childlessFits-root, ..    a node without child
 --     bitFits-one, ..           a bit, by itself and the one before
---     imageTest-many, ..        the whole, by the first test that fails
+--     lengthsFit-many, -values, -words    the test of the lengths, by the first that fails; `lengths-told`, `lengths-fit`: what it tells, and back
+--     imageTest-unfit, ..       the whole, by the first test that fails
 -- Assumes nothing.
-use mathlib.Core.Path.{_≡_, refl, _∙_}
+use mathlib.Core.Path.{_≡_, refl, sym, _∙_}
 use Prim.Native.Nat.{ℕ, _+_, _-_, _*_, _/_, _%_, _^_, _≤_, _<_}
-use mathlib.Core.Bool.{true, false, _&&_}
+use mathlib.Core.Bool.{Bool, true, false, true≢false, _&&_}
 use mathlib.Core.List.{List}
 use lib.ListN.{length, getD}
-use lib.Dec.{ltb, leb}
-use borrow.Author.Tests.{lt-ltb, le-ltb, le-leb, lt-leb, eq-eqb, ne-eqb}
+use lib.Dec.{eqb, ltb, leb}
+use borrow.Author.Tests.{lt-ltb, le-ltb, le-leb, lt-leb, eq-eqb, ne-eqb, leb-true, eqb-true}
 use Rattle.keymap.specs.Limits.{wordBits, mostRecords}
 use Rattle.keymap.specs.Label.{mark, labelIn}
 use Rattle.keymap.specs.Bits.{wordsFor}
@@ -51,36 +52,64 @@ module _ (i : Image) where
   abbrev pub aboveEnd : ℕ
   aboveEnd = getD (i .words) (bitsFor (entries i) / wordBits) 0 / 2 ^ (bitsFor (entries i) % wordBits)
 
-  pub imageTest-many : mostRecords < entries i → imageTest i ≡ false
-  unfolding imageTest lengthsFit
-  imageTest-many h = rw (lt-leb (entries i) mostRecords h)
+  -- ---- the lengths
+
+  pub lengthsFit-many : mostRecords < entries i → lengthsFit i ≡ false
+  unfolding lengthsFit
+  lengthsFit-many h = rw (lt-leb (entries i) mostRecords h)
 
   module _ (few : entries i ≤ mostRecords) where
-    pub imageTest-values : (length (i .values) ≡ entries i → ⊥) → imageTest i ≡ false
-    unfolding imageTest lengthsFit
-    imageTest-values h = rw (le-leb (entries i) mostRecords few, ne-eqb (length (i .values)) (entries i) h)
+    pub lengthsFit-values : (length (i .values) ≡ entries i → ⊥) → lengthsFit i ≡ false
+    unfolding lengthsFit
+    lengthsFit-values h = rw (le-leb (entries i) mostRecords few, ne-eqb (length (i .values)) (entries i) h)
 
-    module _ (values : length (i .values) ≡ entries i) where
-      pub imageTest-words : (length (i .words) ≡ wordsFor (bitsFor (entries i)) → ⊥) → imageTest i ≡ false
-      unfolding imageTest lengthsFit
-      imageTest-words h =
-          rw (le-leb (entries i) mostRecords few, eq-eqb (length (i .values)) (entries i) values, ne-eqb (length (i .words)) (wordsFor (bitsFor (entries i))) h)
+    pub lengthsFit-words : length (i .values) ≡ entries i → lengthsFit i ≡ eqb (length (i .words)) (wordsFor (bitsFor (entries i)))
+    unfolding lengthsFit
+    lengthsFit-words h = rw (le-leb (entries i) mostRecords few, eq-eqb (length (i .values)) (entries i) h)
 
-      module _ (words : length (i .words) ≡ wordsFor (bitsFor (entries i))) where
-        imageTest-lengths : imageTest i ≡ (endsFit i && passesFrom i (2 * entries i + 1) 2 1 0)
-        unfolding imageTest lengthsFit
-        imageTest-lengths =
-            rw (le-leb (entries i) mostRecords few, eq-eqb (length (i .values)) (entries i) values, eq-eqb (length (i .words)) (wordsFor (bitsFor (entries i))) words)
+  pub record LengthsFit : Type 0 where
+    pub few : entries i ≤ mostRecords
+    pub values-fit : length (i .values) ≡ entries i
+    pub words-fit : length (i .words) ≡ wordsFor (bitsFor (entries i))
 
-        pub imageTest-unused : (aboveEnd ≡ 0 → ⊥) → imageTest i ≡ false
-        unfolding endsFit
-        imageTest-unused h = imageTest-lengths ∙ rw (ne-eqb aboveEnd 0 h)
+  pub lengths-told : lengthsFit i ≡ true → LengthsFit
+  unfolding lengthsFit
+  lengths-told e = go (leb (entries i) mostRecords) refl (eqb (length (i .values)) (entries i)) refl (eqb (length (i .words)) (wordsFor (bitsFor (entries i)))) refl
+    where
+      never : lengthsFit i ≡ false → ⊥
+      never f = true≢false (sym e ∙ f)
 
-        module _ (unused : aboveEnd ≡ 0) where
-          pub imageTest-start : (getD (i .words) 0 0 % 4 ≡ 1 → ⊥) → imageTest i ≡ false
-          unfolding endsFit
-          imageTest-start h = imageTest-lengths ∙ rw (eq-eqb aboveEnd 0 unused, ne-eqb (getD (i .words) 0 0 % 4) 1 h)
+      go : (s : Bool) → leb (entries i) mostRecords ≡ s → (t : Bool) → eqb (length (i .values)) (entries i) ≡ t → (u : Bool)
+          → eqb (length (i .words)) (wordsFor (bitsFor (entries i))) ≡ u → LengthsFit
+      go true f true g true h = record { few = leb-true _ _ f; values-fit = eqb-true _ _ g; words-fit = eqb-true _ _ h }
+      go true f true g false h = absurd (never (rw (f, g, h)))
+      go true f false g u h = absurd (never (rw (f, g)))
+      go false f t g u h = absurd (never (rw f))
 
-          pub imageTest-pass : getD (i .words) 0 0 % 4 ≡ 1 → imageTest i ≡ passesFrom i (2 * entries i + 1) 2 1 0
-          unfolding endsFit
-          imageTest-pass h = imageTest-lengths ∙ rw (eq-eqb aboveEnd 0 unused, eq-eqb (getD (i .words) 0 0 % 4) 1 h)
+  pub lengths-fit : LengthsFit → lengthsFit i ≡ true
+  unfolding lengthsFit
+  lengths-fit t = rw (le-leb _ _ (t .few), eq-eqb _ _ (t .values-fit), eq-eqb _ _ (t .words-fit))
+
+  -- ---- the whole
+
+  pub imageTest-unfit : lengthsFit i ≡ false → imageTest i ≡ false
+  unfolding imageTest
+  imageTest-unfit h = rw h
+
+  module _ (fit : lengthsFit i ≡ true) where
+    imageTest-lengths : imageTest i ≡ (endsFit i && passesFrom i (2 * entries i + 1) 2 1 0)
+    unfolding imageTest
+    imageTest-lengths = rw fit
+
+    pub imageTest-unused : (aboveEnd ≡ 0 → ⊥) → imageTest i ≡ false
+    unfolding endsFit
+    imageTest-unused h = imageTest-lengths ∙ rw (ne-eqb aboveEnd 0 h)
+
+    module _ (unused : aboveEnd ≡ 0) where
+      pub imageTest-start : (getD (i .words) 0 0 % 4 ≡ 1 → ⊥) → imageTest i ≡ false
+      unfolding endsFit
+      imageTest-start h = imageTest-lengths ∙ rw (eq-eqb aboveEnd 0 unused, ne-eqb (getD (i .words) 0 0 % 4) 1 h)
+
+      pub imageTest-pass : getD (i .words) 0 0 % 4 ≡ 1 → imageTest i ≡ passesFrom i (2 * entries i + 1) 2 1 0
+      unfolding endsFit
+      imageTest-pass h = imageTest-lengths ∙ rw (eq-eqb aboveEnd 0 unused, eq-eqb (getD (i .words) 0 0 % 4) 1 h)

@@ -1,25 +1,26 @@
 -- `image::acceptance::is_image` meets its contract: at each return the tests that led there say which case of `imageTest` holds. Assumes nothing.
-use mathlib.Core.Path.{sym, _∙_}
-use Prim.Native.Nat.{ℕ}
+use mathlib.Core.Path.{_≡_, sym, _∙_}
+use mathlib.Core.Bool.{true}
+use native.Mathlib.Omega.{arith}
 use lib.ListN.{length}
 use borrow.Author.Needs.{needs}
+use borrow.Author.Tests.{not-true, not-false}
+use Rattle.keymap.specs.Image.{Image}
+use Rattle.image.specs.AcceptTest.{lengthsFit}
 use Rattle.image.specs.Meaning.{lent}
-use Rattle.image.proofs.Laws.AcceptTest.{imageTest-many, imageTest-values, imageTest-words, imageTest-unused, imageTest-start, imageTest-pass}
+use Rattle.image.proofs.Laws.AcceptTest.{lengths-told, imageTest-unfit, imageTest-unused, imageTest-start, imageTest-pass}
 use Rattle.image.proofs.Laws.Ends.{first-bits, unused-bits}
 use Rattle.image.proofs.acceptance.is_image.Statement.{statement}
 use Rattle.image.proofs.acceptance.is_image.Tie as tie
 
-returns : tie.Need-returns
-returns c =
-    let a = c .before .before .before .before .args in
-    let i = lent (a .labels .now) (a .values .now) (a .words .now) in
-    sym (imageTest-many i (c .if1 .taken))
+abbrev imageAt : tie.Start → Image
+imageAt start = lent (start .args .labels .now) (start .args .values .now) (start .args .words .now)
 
-returns-2 : tie.Need-returns-2
-returns-2 c =
-    let a = c .before .before .before .before .before .args in
-    let i = lent (a .labels .now) (a .values .now) (a .words .now) in
-    sym (imageTest-values i (c .before .if1 .left) (c .if2 .taken))
+lengths-fit-requires : tie.Need-lengths-fit-requires
+lengths-fit-requires c κs = search needs
+
+returns : tie.Need-returns
+returns c = sym (imageTest-unfit (imageAt (c .before .before .before .before .before)) (sym (c .before .lengths-fit .ensures) ∙ not-true _ (c .if1 .taken)))
 
 mul-len : tie.Need-mul-len
 mul-len c = search needs
@@ -27,82 +28,63 @@ mul-len c = search needs
 add-len : tie.Need-add-len
 add-len c = search needs
 
-sub-if3 : tie.Need-sub-if3
-sub-if3 c = search needs
+mul-if2 : tie.Need-mul-if2
+mul-if2 c = search needs
 
-add-if3 : tie.Need-add-if3
-add-if3 c = search needs
+-- past the test of the lengths
+fit : (c : tie.Else1) → lengthsFit (imageAt (c .before .before .before .before .before)) ≡ true
+fit c = sym (c .before .lengths-fit .ensures) ∙ not-false _ (c .if1 .left)
+
+shared-slice-read-if2 : tie.Need-shared-slice-read-if2
+shared-slice-read-if2 c = omega (arith, lengths-told (imageAt (c .before .before .before .before .before .before)) (fit (c .before)) .words-fit)
+
+shr-if2 : tie.Need-shr-if2
+shr-if2 c = search needs
+
+returns-2 : tie.Need-returns-2
+returns-2 c = sym (imageTest-unused (imageAt (c .before .before .before .before .before .before .before)) (fit (c .before .before)) (c .if2 .taken))
+
+shared-slice-read-if3 : tie.Need-shared-slice-read-if3
+shared-slice-read-if3 c = omega (arith, lengths-told (imageAt (c .before .before .before .before .before .before .before .before)) (fit (c .before .before .before)) .words-fit)
 
 returns-3 : tie.Need-returns-3
 returns-3 c =
-    let a = c .before .before .before .before .before .before .args in
-    let i = lent (a .labels .now) (a .values .now) (a .words .now) in
-    sym (imageTest-words i (c .before .before .if1 .left) (c .before .if2 .left) (c .if3 .taken))
-
-mul-if4 : tie.Need-mul-if4
-mul-if4 c = search needs
-
-shared-slice-read-if4 : tie.Need-shared-slice-read-if4
-shared-slice-read-if4 c = search needs
-
-shr-if4 : tie.Need-shr-if4
-shr-if4 c = search needs
-
-returns-4 : tie.Need-returns-4
-returns-4 c =
-    let a = c .before .before .before .before .before .before .before .before .args in
-    let i = lent (a .labels .now) (a .values .now) (a .words .now) in
-    sym (imageTest-unused i (c .before .before .before .before .if1 .left) (c .before .before .before .if2 .left) (c .before .before .if3 .left) (c .if4 .taken))
-
-shared-slice-read-if5 : tie.Need-shared-slice-read-if5
-shared-slice-read-if5 c = search needs
-
-returns-5 : tie.Need-returns-5
-returns-5 c =
-    let a = c .before .before .before .before .before .before .before .before .before .before .args in
-    let i = lent (a .labels .now) (a .values .now) (a .words .now) in
-    sym (imageTest-start i (c .before .before .before .before .before .before .if1 .left) (c .before .before .before .before .before .if2 .left) (c .before .before .before .before .if3 .left) (c .before .before .if4 .left) (c .if5 .taken))
+    sym (imageTest-start (imageAt (c .before .before .before .before .before .before .before .before .before)) (fit (c .before .before .before .before)) (c .before .before .if2 .left) (c .if3 .taken))
 
 passes-requires : tie.Need-passes-requires
 passes-requires c κs =
-    let a = c .before .before .before .before .before .before .before .before .before .before .args in
-    let ws = a .words .now in
-    let n : ℕ = length (a .labels .now) in
-    let lengths = c .before .before .before .before .before .before in
-    let start = first-bits ws .1 (c .if5 .left) in (
-      c .before .before .before .before .before .if2 .left,
+    let i = imageAt (c .before .before .before .before .before .before .before .before .before) in
+    let told = lengths-told i (fit (c .before .before .before .before)) in
+    let start = first-bits (i .words) .1 (c .if3 .left) in (
+      told .values-fit,
       record {
-        few = lengths .if1 .left;
-        words-fit = c .before .before .before .before .if3 .left;
-        wide = λ w. c .before .before .before .before .before .before .before .shared-slice-known3 .given w .fits;
-        unused = unused-bits n ws (c .before .before .before .before .if3 .left) (c .before .before .if4 .left);
+        few = told .few;
+        words-fit = told .words-fit;
+        wide = λ w. c .before .before .before .before .before .before .shared-slice-known3 .given w .fits;
+        unused = unused-bits (length (i .labels)) (i .words) (told .words-fit) (c .before .before .if2 .left);
         first = start .0;
         second = start .1;
       },
     )
 
-returns-6 : tie.Need-returns-6
-returns-6 c =
-    let a = c .before .before .before .before .before .before .before .before .before .before .before .args in
-    let i = lent (a .labels .now) (a .values .now) (a .words .now) in
-    c .passes .ensures ∙ sym (imageTest-pass i (c .before .before .before .before .before .before .before .if1 .left) (c .before .before .before .before .before .before .if2 .left) (c .before .before .before .before .before .if3 .left) (c .before .before .before .if4 .left) (c .before .if5 .left))
+returns-4 : tie.Need-returns-4
+returns-4 c =
+    let i = imageAt (c .before .before .before .before .before .before .before .before .before .before) in
+    c .passes .ensures ∙ sym (imageTest-pass i (fit (c .before .before .before .before .before)) (c .before .before .before .if2 .left) (c .before .if3 .left))
 
 pub is-image-spec : {M : Type 1} → statement M
 is-image-spec =
     tie.close
     (tie.spec
+    lengths-fit-requires
     returns
-    returns-2
     mul-len
     add-len
-    sub-if3
-    add-if3
+    mul-if2
+    shared-slice-read-if2
+    shr-if2
+    returns-2
+    shared-slice-read-if3
     returns-3
-    mul-if4
-    shared-slice-read-if4
-    shr-if4
-    returns-4
-    shared-slice-read-if5
-    returns-5
     passes-requires
-    returns-6)
+    returns-4)

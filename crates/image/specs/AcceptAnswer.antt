@@ -1,4 +1,4 @@
--- What `accept` answers, in 01's numbers: refusal 6 "exactly when .. lent image is no map's image", else 0.
+-- What `accept` answers, in 01's numbers: refusal 6 "exactly when .. lent image is no map's image", else 0; and how every search begins.
 -- Assumes nothing.
 use Prim.Native.Nat.{ℕ}
 use mathlib.Core.Bool.{cond}
@@ -12,5 +12,9 @@ abbrev pub saidChecked : Checked → List ℕ
 saidChecked Checked.Accepted = 0 ∷ []
 saidChecked Checked.NotAnImage = refusalNumber Refusal.NotAnImage ∷ []
 
+-- what a call says of an image that some map has, and refusal 6 of any other
+abbrev pub onImage : Image → List ℕ → List ℕ
+onImage i says = cond (imageTest i) says (refusalNumber Refusal.NotAnImage ∷ [])
+
 unfoldable pub acceptSays : Image → List ℕ
-acceptSays i = cond (imageTest i) (0 ∷ []) (refusalNumber Refusal.NotAnImage ∷ [])
+acceptSays i = onImage i (0 ∷ [])

@@ -28,3 +28,4 @@ pub mod Paths
 pub mod ValueSet
 pub mod Common
 pub mod Steps
+pub mod Answers

@@ -4,6 +4,7 @@ pub mod Buffers
 pub mod Refusals
 pub mod Members
 pub mod Key
+pub mod Answers
 pub mod Map
 pub mod Queries
 pub mod Prefixes

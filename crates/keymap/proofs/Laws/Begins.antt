@@ -7,7 +7,7 @@
 --     prefix-chain         of two prefixes of one key the shorter is a prefix of the longer
 --     prefix-rises         and stands below it exactly if it is shorter
 --     prefix-below         a key stands below all others that begin with it
---     extends-iff          to extend q is to begin with it and to be longer
+--     extends-iff          to extend q is to begin with it and to be longer; `extends-own`: no key extends itself
 --     commonPrefix-iff     the prefixes of the common prefix are those that both keys have
 --     compareKeys-append   behind a common beginning the rests decide
 --     prefix-between       what stands between two keys that begin with q begins with it
@@ -159,6 +159,14 @@ unfolding extends
 extends-iff q k =
     let both : (extends q k ≡ true) ↔ (PrefixOf q k × (ltb (length q) (length k) ≡ true)) = both-true (beginsWith q k) (ltb (length q) (length k)) in
     (λ h. (both .0 h .0, ltb-true _ _ (both .0 h .1)), λ h. both .1 (h .0, lt-ltb _ _ (h .1)))
+
+-- no key extends itself
+pub extends-own : (p : Key) → extends p p ≡ false
+extends-own p = go (extends p p) refl
+  where
+    go : (t : Bool) → extends p p ≡ t → extends p p ≡ false
+    go true e = absurd (omega (arith, extends-iff p p .0 e .1))
+    go false e = e
 
 pub commonPrefix-iff : (p x y : Key) → PrefixOf p (commonPrefix x y) ↔ (PrefixOf p x × PrefixOf p y)
 unfolding commonPrefix

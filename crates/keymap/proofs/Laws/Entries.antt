@@ -8,7 +8,7 @@
 --     forest-told       the degrees and entries of a trie are told as `Told` asks
 -- Assumes nothing.
 use mathlib.Core.Path.{_≡_, refl, sym, ap, ap₂, _∙_}
-use Prim.Native.Nat.{ℕ, zero, suc, _*_, _<_}
+use Prim.Native.Nat.{ℕ, zero, suc, _<_}
 use native.Mathlib.Omega.{arith}
 use mathlib.Core.List.{List, [], _∷_, map}
 use mathlib.Core.Option.{Option, none, some}
@@ -20,7 +20,7 @@ use Rattle.keymap.specs.Degrees.{total}
 use Rattle.keymap.specs.Forest.{Forest, ByteLabels, size, width}
 use Rattle.keymap.specs.BreadthFirst.{Row, rows, rowLabel, rowValue, rowDegree}
 use Rattle.keymap.proofs.Laws.Sums.{sumBelow-ext}
-use Rattle.keymap.proofs.Laws.Label.{labelIn-labelEntry, valueIn-labelEntry}
+use Rattle.keymap.proofs.Laws.Label.{labelIn-labelEntry, valueIn-labelEntry, labelEntry-small}
 use Rattle.keymap.proofs.Laws.BreadthFirst.{queue, row, rows-queue, length-rows}
 use Rattle.keymap.proofs.Laws.Image.{ByteRows, rows-bytes, total-rows}
 use Rattle.keymap.proofs.Laws.Items.{nobody, allItems, itemDegree, entryItem, children-beyond}
@@ -55,10 +55,6 @@ bytes-getD [] b e = lit< tt
 bytes-getD (r ∷ rs) b zero = b .0
 bytes-getD (r ∷ rs) b (suc e) = bytes-getD rs (b .1) e
 
-entry-small : (a : ℕ) (w : Option ℕ) → a < byteLimit → labelEntry a w < 2 * mark
-entry-small a none h = omega arith
-entry-small a (some v) h = omega arith
-
 unmarked : (a : ℕ) (w : Option ℕ) → labelEntry a w < mark → w ≡ none
 unmarked a none h = refl
 unmarked a (some v) h = absurd (omega arith)
@@ -84,7 +80,7 @@ module _ (f : Forest) (b : ByteLabels f) where
     fit = length-map (rows f) rowValue ∙ sym (length-map (rows f) rowLabel);
     all = total-rows f ∙ sym labelled;
     ahead = λ k h. rw (sumBelow-ext (λ j. getD (width f ∷ map rowDegree (rows f)) j 0) (itemDegree f) k (λ j l. getD-degrees f j)) (children-beyond f k (omega (arith, labelled)));
-    small = λ e h. rw (getD-labels f e) (entry-small ((entryItem f e) .label) ((entryItem f e) .value) (entry-byte e));
+    small = λ e h. rw (getD-labels f e) (labelEntry-small ((entryItem f e) .label) ((entryItem f e) .value) (entry-byte e));
     plain = λ e h u. getD-values f e ∙ ap valueWord (unmarked-entry e u);
   }
     where

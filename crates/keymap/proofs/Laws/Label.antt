@@ -2,6 +2,7 @@
 --
 --     labelIn-labelEntry    the label
 --     valueIn-labelEntry    the value, 0 too
+--     labelEntry-small      the number is below twice the mark
 --     labelEntry-back       and a number below twice the mark is that of its label and its value
 -- Assumes nothing.
 use mathlib.Core.Path.{_≡_, refl, sym}
@@ -23,6 +24,10 @@ valueIn-labelEntry a none h = rw (lt-leb mark a h)
 valueIn-labelEntry a (some v) h =
     let marked : mark ≤ labelEntry a (some v) = omega arith in
     rw (le-leb mark (labelEntry a (some v)) marked)
+
+pub labelEntry-small : (a : ℕ) (w : Option ℕ) → a < byteLimit → labelEntry a w < 2 * mark
+labelEntry-small a none h = omega arith
+labelEntry-small a (some v) h = omega arith
 
 -- what a number below twice the mark is made of
 pub labelEntry-back : (e v : ℕ) → e < 2 * mark → labelEntry (labelIn e) (valueIn e v) ≡ e

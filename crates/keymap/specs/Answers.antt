@@ -1,0 +1,35 @@
+-- What several calls say in numbers: a refusal is its number alone, every other answer begins with 0 and goes on with what it tells.
+--
+--     given         whether something was found
+--     saysValue     a value found, or no match
+--     saysFlag      yes, or no
+--     saysWritten   a key that is to be written to a lent buffer, and `writtenTo`: the buffer afterwards
+-- Assumes nothing.
+use Prim.Native.Nat.{ℕ}
+use mathlib.Core.Bool.{Bool, true, false, cond}
+use mathlib.Core.List.{List, [], _∷_, _++_}
+use mathlib.Core.Option.{Option, none, some}
+use lib.ListN.{length, drop}
+use lib.Dec.{leb}
+use Rattle.keymap.specs.Key.{Key}
+use Rattle.keymap.specs.Refusals.{refusalNumber, KeyRoom}
+
+abbrev pub given : Option ℕ → Bool
+given none = false
+given (some v) = true
+
+abbrev pub saysValue : Option ℕ → List ℕ
+saysValue none = 0 ∷ []
+saysValue (some v) = 0 ∷ v ∷ []
+
+abbrev pub saysFlag : Bool → List ℕ
+saysFlag true = 0 ∷ 1 ∷ []
+saysFlag false = 0 ∷ []
+
+-- its length, or refusal 8 where the buffer is shorter
+abbrev pub saysWritten : Key → List ℕ → List ℕ
+saysWritten k out = cond (leb (length k) (length out)) (0 ∷ length k ∷ []) (refusalNumber KeyRoom ∷ [])
+
+-- the buffer with a key written to its front, as it was where it is shorter
+abbrev pub writtenTo : Key → List ℕ → List ℕ
+writtenTo k out = cond (leb (length k) (length out)) (k ++ drop (length k) out) out

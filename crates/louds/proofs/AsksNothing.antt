@@ -25,6 +25,10 @@ use Rattle.louds.proofs.nodes.parent
 use Rattle.louds.proofs.nodes.parent.Reads as parent-reads
 use Rattle.louds.proofs.bits.put_one
 use Rattle.louds.proofs.bits.put_one.Reads as put-one-reads
+use Rattle.louds.proofs.rank.ones_by_byte
+use Rattle.louds.proofs.rank.ones_by_byte.Reads as ones-by-byte-reads
+use Rattle.louds.proofs.select.ones_from
+use Rattle.louds.proofs.select.ones_from.Reads as ones-from-reads
 
 pub bit-at-asks-nothing : (κs : Lfts 1) (a : ArgsD bit_at.signature κs) → bit-at-reads.Pre κs a
 bit-at-asks-nothing κs a = tt
@@ -61,3 +65,9 @@ parent-asks-nothing κs a = tt
 
 pub put-one-asks-nothing : (κs : Lfts 1) (a : ArgsD put_one.signature κs) → put-one-reads.Pre κs a
 put-one-asks-nothing κs a = tt
+
+pub ones-by-byte-asks-nothing : (κs : Lfts 0) (a : ArgsD ones_by_byte.signature κs) → ones-by-byte-reads.Pre κs a
+ones-by-byte-asks-nothing κs a = tt
+
+pub ones-from-asks-nothing : (κs : Lfts 0) (a : ArgsD ones_from.signature κs) → ones-from-reads.Pre κs a
+ones-from-asks-nothing κs a = tt

@@ -42,6 +42,12 @@ use Rattle.louds.proofs.nodes.parent.Reads as parent-reads
 use Rattle.louds.proofs.bits.put_one
 use Rattle.louds.proofs.bits.put_one.Kinds as put-one-kinds
 use Rattle.louds.proofs.bits.put_one.Reads as put-one-reads
+use Rattle.louds.proofs.rank.ones_by_byte
+use Rattle.louds.proofs.rank.ones_by_byte.Kinds as ones-by-byte-kinds
+use Rattle.louds.proofs.rank.ones_by_byte.Reads as ones-by-byte-reads
+use Rattle.louds.proofs.select.ones_from
+use Rattle.louds.proofs.select.ones_from.Kinds as ones-from-kinds
+use Rattle.louds.proofs.select.ones_from.Reads as ones-from-reads
 
 module _ (κs : Lfts 1) where
   pub bit-at-determined : (a : ArgsD bit_at.signature κs) (r₁ r₂ : ResD bit_at.signature κs) (s₁ s₂ : AtExit (endedOf 1 bit-at-kinds.ps bit-at-kinds.r) κs)
@@ -92,3 +98,11 @@ module _ (κs : Lfts 0) where
   pub lowest-one-determined : (a : ArgsD lowest_one.signature κs) (r₁ r₂ : ResD lowest_one.signature κs) (s₁ s₂ : AtExit (endedOf 0 lowest-one-kinds.ps lowest-one-kinds.r) κs)
       → lowest-one-reads.Post κs a r₁ s₁ → lowest-one-reads.Post κs a r₂ s₂ → r₁ ≡ r₂
   lowest-one-determined a r₁ r₂ s₁ s₂ p q = p ∙ sym q
+
+  pub ones-by-byte-determined : (a : ArgsD ones_by_byte.signature κs) (r₁ r₂ : ResD ones_by_byte.signature κs) (s₁ s₂ : AtExit (endedOf 0 ones-by-byte-kinds.ps ones-by-byte-kinds.r) κs)
+      → ones-by-byte-reads.Post κs a r₁ s₁ → ones-by-byte-reads.Post κs a r₂ s₂ → r₁ ≡ r₂
+  ones-by-byte-determined a r₁ r₂ s₁ s₂ p q = p ∙ sym q
+
+  pub ones-from-determined : (a : ArgsD ones_from.signature κs) (r₁ r₂ : ResD ones_from.signature κs) (s₁ s₂ : AtExit (endedOf 0 ones-from-kinds.ps ones-from-kinds.r) κs)
+      → ones-from-reads.Post κs a r₁ s₁ → ones-from-reads.Post κs a r₂ s₂ → r₁ ≡ r₂
+  ones-from-determined a r₁ r₂ s₁ s₂ p q = p ∙ sym q

@@ -7,6 +7,7 @@ pub mod Digits
 pub mod Fields
 pub mod ByteRanks
 pub mod NthOne
+pub mod Taking
 pub mod MarkWords
 pub mod Passing
 pub mod Descending

@@ -5,7 +5,9 @@ use denote.Ref.{now}
 use Rattle.keymap.specs.Contract.{Tells}
 use lib.Count.{ones, trailingZeros}
 use Rattle.keymap.specs.Limits.{wordBits}
-use Rattle.keymap.specs.Bits.{bit}
+use Prim.Native.Nat.{_+_, _*_, _%_, _^_}
+use Rattle.keymap.specs.Bits.{bit, sumBelow}
+use Rattle.louds.specs.Taking.{onesFrom}
 use Rattle.louds.specs.Put.{withOne}
 use Rattle.louds.specs.Rank.{onesBefore, zerosBefore}
 use Rattle.louds.specs.Select.{zeroAt, zeroFrom, oneAt, oneBack}
@@ -34,6 +36,10 @@ use Rattle.louds.proofs.nodes.children.Kinds as children-kinds
 use Rattle.louds.proofs.nodes.children.Reads as children-reads
 use Rattle.louds.proofs.nodes.parent.Kinds as parent-kinds
 use Rattle.louds.proofs.nodes.parent.Reads as parent-reads
+use Rattle.louds.proofs.rank.ones_by_byte.Kinds as ones-by-byte-kinds
+use Rattle.louds.proofs.rank.ones_by_byte.Reads as ones-by-byte-reads
+use Rattle.louds.proofs.select.ones_from.Kinds as ones-from-kinds
+use Rattle.louds.proofs.select.ones_from.Reads as ones-from-reads
 
 pub bit-at-says : Tells 1 bit-at-kinds.ps bit-at-kinds.r bit-at-reads.Post (λ κs a r s. r ≡ bit (now (a .0)) (a .1 .0))
 bit-at-says κs a r s p = p
@@ -70,3 +76,9 @@ ones-in-says κs a r s p = p
 
 pub lowest-one-says : Tells 0 lowest-one-kinds.ps lowest-one-kinds.r lowest-one-reads.Post (λ κs a r s. r ≡ trailingZeros wordBits (a .0))
 lowest-one-says κs a r s p = p
+
+pub ones-by-byte-says : Tells 0 ones-by-byte-kinds.ps ones-by-byte-kinds.r ones-by-byte-reads.Post (λ κs a r s. r ≡ sumBelow (λ i. ones (a .0 % 2 ^ (8 * (i + 1))) * 2 ^ (8 * i)) 8)
+ones-by-byte-says κs a r s p = p
+
+pub ones-from-says : Tells 0 ones-from-kinds.ps ones-from-kinds.r ones-from-reads.Post (λ κs a r s. r ≡ onesFrom (a .0) (a .1 .0) (a .1 .1 .0))
+ones-from-says κs a r s p = p

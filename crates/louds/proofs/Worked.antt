@@ -2,10 +2,11 @@
 -- The nodes of the document's map A, "ab" 7 and "b" 3, and of the five keys of `src/map/trie.rs`: "a", "app", "apple", "better", "application"; a row has a
 -- number, the children and the parent. That these are their words is `worked-images` of keymap. Past the last node stand the row of the last zero, which closes
 -- an empty run, and one of a number that no bit has.
--- And selects at the ends of words, in words of zeros, of ones, and of ones behind zeros. Assumes nothing.
+-- Ones of a word from its j-th on. And selects at the ends of words, in words of zeros, of ones, and of ones behind zeros. Assumes nothing.
 use mathlib.Core.Path.{_≡_, refl}
 use mathlib.Core.List.{List, [], _∷_, map}
 use Prim.Native.Nat.{ℕ}
+use lib.Count.{trailingZeros}
 use Rattle.keymap.specs.Bits.{bit, sumBelow}
 use Rattle.louds.specs.declared.Spot.{Spot}
 use Rattle.louds.specs.declared.Spot.the-variants.{At, Missing}
@@ -15,6 +16,7 @@ use Rattle.louds.specs.declared.Up.{Up}
 use Rattle.louds.specs.declared.Up.the-variants.{Node, NoOne}
 use Rattle.louds.specs.Rank.{gap}
 use Rattle.louds.specs.Select.{kth, onward, zeroAt, zeroFrom, oneAt, oneBack}
+use Rattle.louds.specs.Taking.{cleared, onesFrom}
 use Rattle.louds.specs.Nodes.{orEnd, runFrom, childrenOf, upFrom, parentOf}
 
 abbrev Row : Type 0
@@ -171,3 +173,24 @@ onwardOfTwo =
 pub zeros-onward-at-ends : map (λ (row : ℕ × ℕ × ℕ × Spot). (row .0, row .1, row .2, zeroFrom (bit (0 ∷ allOnes ∷ [])) (row .0) (row .1) (row .2))) onwardOfTwo ≡ onwardOfTwo
 unfolding bit gap sumBelow onward kth
 zeros-onward-at-ends = refl
+
+-- a word, its ones up to the end of each byte, a number, and its ones from that of this number on: of the bits 1 0 1 1 0 1, and of bits 0, 8 and 63; with sums of no ones all are passed
+abbrev Taking : Type 0
+Taking = ℕ × ℕ × ℕ × ℕ
+
+abbrev takings : List Taking
+takings =
+    (45, 289360691352306692, 1, 45)
+    ∷ (45, 289360691352306692, 2, 44)
+    ∷ (45, 289360691352306692, 3, 40)
+    ∷ (45, 289360691352306692, 4, 32)
+    ∷ (45, 289360691352306692, 5, 0)
+    ∷ (9223372036854776065, 216737939714081281, 1, 9223372036854776065)
+    ∷ (9223372036854776065, 216737939714081281, 2, 9223372036854776064)
+    ∷ (9223372036854776065, 216737939714081281, 3, 9223372036854775808)
+    ∷ (45, 0, 1, 0)
+    ∷ []
+
+pub ones-taken : map (λ (row : Taking). (row .0, row .1, row .2, onesFrom (row .0) (row .1) (row .2))) takings ≡ takings
+unfolding trailingZeros cleared onesFrom
+ones-taken = refl

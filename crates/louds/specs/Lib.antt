@@ -1,4 +1,5 @@
 pub mod Digits
+pub mod Taking
 pub mod Rank
 pub mod Select
 pub mod Nodes

@@ -13,11 +13,13 @@ pub use bits::put_one;
 pub use nodes::children;
 pub use nodes::parent;
 pub use rank::ones_before;
+pub use rank::ones_by_byte;
 pub use rank::ones_in;
 pub use rank::zeros_before;
 pub use select::lowest_one;
 pub use select::one_at;
 pub use select::one_back;
+pub use select::ones_from;
 pub use select::zero_at;
 pub use select::zero_from;
 

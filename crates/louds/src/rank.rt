@@ -18,10 +18,10 @@ pub fn ones_in(word: u64) -> usize
 fn ones_of_bytes(word: u64) -> u64
     ensures { λ r. ⌜ r ≡ sumBelow (λ i. ones (word / 2 ^ (8 * i) % 2 ^ 8) * 2 ^ (8 * i)) 8 ⌝ }
 {
-    // first of every two bits, then of four, then of eight
-    let twos = (word & 0x5555555555555555u64) + ((word >> 1) & 0x5555555555555555u64);
+    // first of every two bits, then of four, then of eight: an upper bit weighs 2, and two counts up to 4 fit in four bits
+    let twos = word - ((word >> 1) & 0x5555555555555555u64);
     let fours = (twos & 0x3333333333333333u64) + ((twos >> 2) & 0x3333333333333333u64);
-    (fours & 0x0f0f0f0f0f0f0f0fu64) + ((fours >> 4) & 0x0f0f0f0f0f0f0f0fu64)
+    (fours + (fours >> 4)) & 0x0f0f0f0f0f0f0f0fu64
 }
 
 // How many ones a word has up to the end of each of its bytes, in that byte.

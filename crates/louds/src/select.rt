@@ -8,12 +8,14 @@ ghost use Rattle.keymap.specs.Bits.{bit, number};
 ghost use Rattle.louds.specs.Digits.{digit};
 ghost use Rattle.louds.specs.Nodes.{orEnd};
 ghost use Rattle.louds.specs.declared.Spot.the-variants.{At};
+ghost use Rattle.louds.specs.Taking.{onesFrom};
 ghost use Rattle.louds.specs.Select.{kth, marks, bitFrom, zeroAt, zeroFrom, oneAt, oneBack};
 use crate::Spot;
 use crate::bits::WORD_BITS;
 use crate::bits::word_at;
 use crate::rank::ones_by_byte;
 use crate::rank::ones_in;
+use std::num::wrapping_add_u64;
 
 // The lowest bit of each byte of a word.
 const LOW_BITS: u64 = 0x0101010101010101;
@@ -64,6 +66,31 @@ fn nth_one(word: u64, j: usize) -> usize
     let start = lowest_one(reached) - 7;
     let below = ((sums << 8) >> start) & 255;
     start + picked(word >> start, j - below as usize)
+}
+
+// What 127 in each byte is more than the complement of 0.
+const MOST_LESS: u64 = 0x7f7f7f7f7f7f7f80;
+
+// The ones of a word without those before its j-th, where `sums` are its ones up to the end of each byte. Other sums give other ones of it, or none.
+pub fn ones_from(word: u64, sums: u64, j: usize) -> u64
+    ensures { λ r. ⌜ r ≡ onesFrom word sums j ⌝ }
+{
+    // in each byte 127 less the ones before the byte, plus j: its top bit is set if those are fewer than j, so the j-th is in the byte before the first without it, or in the last byte
+    let fewer = wrapping_add_u64(
+        wrapping_add_u64(!(sums << 8), MOST_LESS),
+        (j % 256) as u64 * LOW_BITS,
+    );
+    let start = (lowest_one(!fewer & TOP_BITS) + 56) & 56;
+    let mut over = (fewer >> start) % 128;
+    let mut rest = word >> start << start;
+    while over != 0 {
+        if rest == 0 {
+            return 0;
+        }
+        rest = rest & (rest - 1);
+        over -= 1;
+    }
+    rest
 }
 
 // Word w of the marks of the bits that equal v: a one where such a bit stands.

@@ -1,7 +1,7 @@
 -- The ones of a word, counted in all its bytes at once: in each byte, by folding counts of one digit three times, and up to the end of each, by shifts and sums.
 --
---     twos-lt, fours-lt, eights-lt   counts of two digits, of four and of eight stay in their fields
---     eights-count   the last are those of each byte
+--     lean-less, lean-fours-lt, lean-both-lt   counts of two digits, of four and of eight stay in their fields
+--     lean-count     the last are those of each byte
 --     ones-parts     the ones below a place and from it on
 --     ranked         the ones of the i lowest fields
 --     ranked-zero    of none
@@ -15,17 +15,18 @@
 -- Assumes nothing.
 use mathlib.Core.Path.{_≡_, refl, sym, ap, ap₂, _∙_}
 use Prim.Native.Nat.{ℕ, zero, suc, _+_, _-_, _*_, _/_, _%_, _^_, _≤_, _<_}
-use native.Mathlib.Nat.{pow-suc, add-comm, add-mul, mul-add, mul-suc, mul-zero, mul-one, mul-le-mul-left, mod-lt, zero-lt-suc, lt-of-le-of-lt}
+use native.Mathlib.Nat.{pow-suc, add-comm, add-mul, mul-add, mul-suc, mul-zero, mul-one, mul-le-mul-left, mod-lt, mod-eq-of-lt, div-eq-of-lt, zero-lt-suc, lt-of-le-of-lt}
 use native.Mathlib.Decide.{decLe}
 use native.Mathlib.Omega.{arith}
-use lib.Pow.{pow-pos, shr-shr, mod-pow-add}
+use lib.Pow.{pow-pos, shr-shr, mod-pow-add, high}
+use lib.Bits.{bitAnd}
 use lib.Count.{ones, ones-cat}
 use Rattle.keymap.specs.Limits.{wordBits}
 use Rattle.keymap.specs.Bits.{sumBelow}
-use Rattle.keymap.proofs.Laws.Sums.{sumBelow-mono}
+use Rattle.keymap.proofs.Laws.Sums.{sumBelow-suc, sumBelow-mono}
 use Rattle.louds.proofs.Laws.Words.{ones-bit, ones-low}
 use Rattle.louds.proofs.Laws.Digits.{ones-few}
-use Rattle.louds.proofs.Laws.Fields.{joined, joined-ext, joined-add, joined-lt, joined-field, joined-shl, delayed, delayed-before, delayed-at, comb, folded, folded-fields}
+use Rattle.louds.proofs.Laws.Fields.{joined, joined-suc, joined-ext, joined-add, joined-lt, joined-field, joined-whole, joined-shl, delayed, delayed-before, delayed-at, comb, and-comb, folded, folded-fields}
 
 -- ---- counts by folding
 
@@ -116,17 +117,99 @@ module _ (x : ℕ) where
   four-counts : Counts 4 16 x fours
   four-counts = counts-next 2 16 pairComb x twos pairComb-is two-counts
 
-  pub twos-lt : twos < 2 ^ wordBits
-  twos-lt = folded-lt 1 32 bitComb x x bitComb-is (counts-start 64 x)
-
-  pub fours-lt : fours < 2 ^ wordBits
+  fours-lt : fours < 2 ^ wordBits
   fours-lt = folded-lt 2 16 pairComb x twos pairComb-is two-counts
 
-  pub eights-lt : eights < 2 ^ wordBits
-  eights-lt = folded-lt 4 8 nibbleComb x fours nibbleComb-is four-counts
-
-  pub eights-count : eights ≡ joined 8 (λ i. ones (x / 2 ^ (8 * i) % 2 ^ 8)) 8
+  eights-count : eights ≡ joined 8 (λ i. ones (x / 2 ^ (8 * i) % 2 ^ 8)) 8
   eights-count = counts-folded 4 8 nibbleComb x fours nibbleComb-is four-counts
+
+-- ---- the same counts by fewer operations
+
+-- of two bits the upper is taken from both once, as it weighs 2
+twos-less : (x : ℕ) → x < 2 ^ wordBits → bitAnd (x / 2) bitComb + twos x ≡ x
+twos-less x wide =
+    let low : bitAnd x bitComb ≡ joined 2 (λ i. x / 2 ^ (2 * i) % 2) 32 = ap (bitAnd x) bitComb-is ∙ and-comb 1 32 x in
+    let high : bitAnd (x / 2) bitComb ≡ joined 2 (λ i. x / 2 / 2 ^ (2 * i) % 2) 32 = ap (bitAnd (x / 2)) bitComb-is ∙ and-comb 1 32 (x / 2) in
+    let once = joined-add 2 (λ i. x / 2 / 2 ^ (2 * i) % 2) (λ i. x / 2 / 2 ^ (2 * i) % 2) 32 in
+    let both = joined-add 2 (λ i. x / 2 / 2 ^ (2 * i) % 2 + x / 2 / 2 ^ (2 * i) % 2) (λ i. x / 2 ^ (2 * i) % 2) 32 in
+    let all = joined-ext 2 (λ i. x / 2 / 2 ^ (2 * i) % 2 + x / 2 / 2 ^ (2 * i) % 2 + x / 2 ^ (2 * i) % 2) (λ i. x / 2 ^ (2 * i) % 2 ^ 2) 32 (λ i l. pair i) in
+    omega (arith, low, high, once, both, all, joined-whole 2 32 x, mod-eq-of-lt wide)
+  where
+    pair : (i : ℕ) → x / 2 / 2 ^ (2 * i) % 2 + x / 2 / 2 ^ (2 * i) % 2 + x / 2 ^ (2 * i) % 2 ≡ x / 2 ^ (2 * i) % 2 ^ 2
+    pair i =
+        let y : ℕ = x / 2 ^ (2 * i) in
+        let swap : x / 2 / 2 ^ (2 * i) ≡ y / 2 = shr-shr x 1 (2 * i) ∙ ap (λ (e : ℕ). x / 2 ^ e) (add-comm 1 (2 * i)) ∙ sym (shr-shr x (2 * i) 1) in
+        ap (λ (z : ℕ). z % 2 + z % 2 + y % 2) swap ∙ omega arith
+
+-- counts of four bits are 4 at most, so two of them fit in four bits
+module _ (x : ℕ) (wide : x < 2 ^ wordBits) where
+  abbrev count : ℕ → ℕ
+  count i = ones (x / 2 ^ (4 * i) % 2 ^ 4)
+
+  count-few : (i : ℕ) → count i ≤ 4
+  count-few i = ones-few (x / 2 ^ (4 * i)) 4
+
+  fours-joined : fours x ≡ joined 4 count 16
+  fours-joined = counts-folded 2 16 pairComb x (twos x) pairComb-is (two-counts x)
+
+  beyond : count 16 ≡ 0
+  beyond = let none : x / 2 ^ (4 * 16) ≡ 0 = div-eq-of-lt wide in omega (arith, ap (λ (y : ℕ). ones (y % 2 ^ 4)) none, ones-few 0 0)
+
+  upper-joined : fours x / 2 ^ 4 ≡ joined 4 (λ i. count (suc i)) 16
+  upper-joined =
+      ap (λ (z : ℕ). z / 2 ^ 4) (fours-joined ∙ joined-suc 4 count 15)
+      ∙ high (joined 4 (λ i. count (suc i)) 15) 4 (omega (arith, count-few 0))
+      ∙ omega (arith, sumBelow-suc (λ i. count (suc i) * 2 ^ (4 * i)) 15, beyond)
+
+  both-joined : fours x + fours x / 2 ^ 4 ≡ joined 4 (λ i. count i + count (suc i)) 16
+  both-joined = ap₂ (λ (a b : ℕ). a + b) fours-joined upper-joined ∙ joined-add 4 count (λ i. count (suc i)) 16
+
+  both-small : (i : ℕ) → i < 16 → count i + count (suc i) < 2 ^ 4
+  both-small i l = omega (arith, count-few i, count-few (suc i))
+
+  both-lt : fours x + fours x / 2 ^ 4 < 2 ^ wordBits
+  both-lt = omega (arith, both-joined, joined-lt 4 (λ i. count i + count (suc i)) 16 both-small)
+
+  eights-masked : bitAnd (fours x + fours x / 2 ^ 4) nibbleComb ≡ eights x
+  eights-masked =
+      ap (bitAnd (fours x + fours x / 2 ^ 4)) nibbleComb-is
+      ∙ and-comb 4 8 (fours x + fours x / 2 ^ 4)
+      ∙ joined-ext 8 (λ i. (fours x + fours x / 2 ^ 4) / 2 ^ (8 * i) % 2 ^ 4) (λ i. fours x / 2 ^ (8 * i) % 2 ^ 4 + fours x / 2 ^ 4 / 2 ^ (8 * i) % 2 ^ 4) 8 here
+      ∙ sym (folded-fields 4 8 nibbleComb (fours x) nibbleComb-is)
+    where
+      even : (i : ℕ) → 8 * i ≡ 4 * (i + i)
+      even i = omega arith
+
+      at : (f : ℕ → ℕ) (z : ℕ) → z ≡ joined 4 f 16 → ((j : ℕ) → j < 16 → f j < 2 ^ 4) → (i : ℕ) → i < 8 → z / 2 ^ (8 * i) % 2 ^ 4 ≡ f (i + i)
+      at f z is small i l = ap₂ (λ (y e : ℕ). y / 2 ^ e % 2 ^ 4) is (even i) ∙ joined-field 4 f 16 (i + i) small (omega (arith, l))
+
+      here : (i : ℕ) → i < 8 → (fours x + fours x / 2 ^ 4) / 2 ^ (8 * i) % 2 ^ 4 ≡ fours x / 2 ^ (8 * i) % 2 ^ 4 + fours x / 2 ^ 4 / 2 ^ (8 * i) % 2 ^ 4
+      here i l =
+          at (λ j. count j + count (suc j)) (fours x + fours x / 2 ^ 4) both-joined both-small i l
+          ∙ sym (ap₂ (λ (a b : ℕ). a + b) (at count (fours x) fours-joined (λ j h. omega (arith, count-few j)) i l) (at (λ j. count (suc j)) (fours x / 2 ^ 4) upper-joined (λ j h. omega (arith, count-few (suc j))) i l))
+
+-- as the machine computes them
+module _ (x : ℕ) (wide : x < 2 ^ wordBits) where
+  abbrev leanFours : ℕ
+  leanFours = folded 2 pairComb (x - bitAnd (x / 2) bitComb)
+
+  lean-twos : x - bitAnd (x / 2) bitComb ≡ twos x
+  lean-twos = omega (arith, twos-less x wide)
+
+  lean-fours : leanFours ≡ fours x
+  lean-fours = ap (folded 2 pairComb) lean-twos
+
+  pub lean-less : bitAnd (x / 2) bitComb ≤ x
+  lean-less = omega (arith, twos-less x wide)
+
+  pub lean-fours-lt : leanFours < 2 ^ wordBits
+  lean-fours-lt = omega (arith, lean-fours, fours-lt x)
+
+  pub lean-both-lt : leanFours + leanFours / 2 ^ 4 < 2 ^ wordBits
+  lean-both-lt = let e : leanFours + leanFours / 2 ^ 4 ≡ fours x + fours x / 2 ^ 4 = ap (λ (f : ℕ). f + f / 2 ^ 4) lean-fours in omega (arith, e, both-lt x wide)
+
+  pub lean-count : bitAnd (leanFours + leanFours / 2 ^ 4) nibbleComb ≡ joined 8 (λ i. ones (x / 2 ^ (8 * i) % 2 ^ 8)) 8
+  lean-count = ap (λ (f : ℕ). bitAnd (f + f / 2 ^ 4) nibbleComb) lean-fours ∙ eights-masked x wide ∙ eights-count x
 
 -- ---- ranks by shifts
 

@@ -1,25 +1,28 @@
 -- Numbers by fields of w binary digits, the lowest first: what a machine does to all fields of a word at once, where none of them runs over.
 --
 --     joined         the number with the fields f 0, f 1, .., f (n - 1)
+--     joined-suc     the lowest field, and the others
 --     joined-ext     equal fields
 --     joined-add     a sum, field by field
 --     joined-lt      n fields make a number below 2 ^ (w * n)
 --     joined-field   a field read back
+--     joined-whole   a number of its own fields
 --     joined-digit   a digit of a field
 --     delayed        fields moved up by r places
 --     delayed-before, delayed-at   what stands where
 --     joined-shl     a shift in a word of r + m fields moves them so
 --     comb           the lower half of each field
+--     and-comb       these alone
 --     folded         the lower halves and the upper halves, added
 --     folded-fields  its fields
 --
 -- Assumes nothing.
 use mathlib.Core.Path.{_≡_, refl, sym, ap, ap₂, _∙_}
 use Prim.Native.Nat.{ℕ, zero, suc, _+_, _-_, _*_, _/_, _%_, _^_, _<_}
-use native.Mathlib.Nat.{zero-mul, mul-zero, mul-one, mul-suc, add-mul, mul-assoc, mul-add, add-comm, zero-add, suc-add, add-zero, div-one, mod-lt, mod-eq-of-lt, add-mul-mod-self-right, lt-of-lt-of-le, le-add-right}
+use native.Mathlib.Nat.{zero-mul, mul-zero, mul-one, mul-suc, add-mul, mul-assoc, mul-add, add-comm, zero-add, suc-add, add-zero, div-one, mod-one, mod-lt, mod-eq-of-lt, add-mul-mod-self-right, lt-of-lt-of-le, le-add-right}
 use native.Mathlib.Omega.{arith}
 use lib.Arith.{digits-lt}
-use lib.Pow.{pow-pos, pow-add, pow-mono, shr-shr, shl-lt, split, high, low, mod-mod-pow, ones-lt}
+use lib.Pow.{pow-pos, pow-add, pow-mono, shr-shr, shl-lt, split, high, low, mod-mod-pow, mod-pow-add, ones-lt}
 use lib.Bits.{bitAnd, and-block, and-mask, and-zero-r}
 use Rattle.keymap.specs.Bits.{sumBelow}
 use Rattle.keymap.proofs.Laws.Sums.{sumBelow-zero, sumBelow-suc, sumBelow-first, sumBelow-add, sumBelow-ext}
@@ -73,7 +76,7 @@ module _ (w : ℕ) where
   field-none : (a : ℕ) → a / 2 ^ (w * 0) ≡ a
   field-none a = ap (λ (e : ℕ). a / 2 ^ e) (mul-zero w) ∙ div-one a
 
-  joined-suc : (f : ℕ → ℕ) (n : ℕ) → joined w f (suc n) ≡ joined w (λ i. f (suc i)) n * 2 ^ w + f 0
+  pub joined-suc : (f : ℕ → ℕ) (n : ℕ) → joined w f (suc n) ≡ joined w (λ i. f (suc i)) n * 2 ^ w + f 0
   joined-suc f n =
       sumBelow-first (λ i. f i * 2 ^ (w * i)) n
       ∙ ap₂ (λ (x y : ℕ). x + y) lowest
@@ -120,6 +123,16 @@ module _ (w : ℕ) where
       ap (λ (x : ℕ). x % 2 ^ w) (field-up (joined w f (suc n)) i)
       ∙ ap (λ (x : ℕ). x / 2 ^ (w * i) % 2 ^ w) (ap (λ (x : ℕ). x / 2 ^ w) (joined-suc f n) ∙ high (joined w (λ j. f (suc j)) n) w (small 0 (omega arith)))
       ∙ joined-field (λ j. f (suc j)) n i (λ j k. small (suc j) (omega arith)) (omega arith)
+
+  -- the fields of a number
+  pub joined-whole : (n x : ℕ) → joined w (λ i. x / 2 ^ (w * i) % 2 ^ w) n ≡ x % 2 ^ (w * n)
+  joined-whole zero x = sumBelow-zero (λ i. x / 2 ^ (w * i) % 2 ^ w * 2 ^ (w * i)) ∙ sym (ap (λ (e : ℕ). x % 2 ^ e) (mul-zero w) ∙ mod-one x)
+  joined-whole (suc n) x =
+      joined-suc (λ i. x / 2 ^ (w * i) % 2 ^ w) n
+      ∙ ap₂ (λ (a b : ℕ). a * 2 ^ w + b)
+      (joined-ext (λ i. x / 2 ^ (w * suc i) % 2 ^ w) (λ i. x / 2 ^ w / 2 ^ (w * i) % 2 ^ w) n (λ i l. ap (λ (y : ℕ). y % 2 ^ w) (field-up x i)) ∙ joined-whole n (x / 2 ^ w))
+      (ap (λ (y : ℕ). y % 2 ^ w) (field-none x))
+      ∙ sym (ap (λ (e : ℕ). x % 2 ^ e) (mul-suc w n) ∙ mod-pow-add x (w * n) w)
 
   pub joined-digit : (f : ℕ → ℕ) (n i e : ℕ) → ((j : ℕ) → j < n → f j < 2 ^ w) → i < n → e < w → digit (joined w f n) (w * i + e) ≡ digit (f i) e
   joined-digit f n i e small l k =
@@ -182,7 +195,7 @@ comb w n = joined (w + w) (λ i. 2 ^ w - 1) n
 abbrev pub folded : ℕ → ℕ → ℕ → ℕ
 folded w mask a = bitAnd a mask + bitAnd (a / 2 ^ w) mask
 
-and-comb : (w n a : ℕ) → bitAnd a (comb w n) ≡ joined (w + w) (λ i. a / 2 ^ ((w + w) * i) % 2 ^ w) n
+pub and-comb : (w n a : ℕ) → bitAnd a (comb w n) ≡ joined (w + w) (λ i. a / 2 ^ ((w + w) * i) % 2 ^ w) n
 and-comb w zero a =
     ap (bitAnd a) (sumBelow-zero (λ i. (2 ^ w - 1) * 2 ^ ((w + w) * i))) ∙ and-zero-r a ∙ sym (sumBelow-zero (λ i. a / 2 ^ ((w + w) * i) % 2 ^ w * 2 ^ ((w + w) * i)))
 and-comb w (suc n) a =

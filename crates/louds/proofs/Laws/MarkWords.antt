@@ -3,6 +3,7 @@
 --     markWord       word w of some marks
 --     markWord-lt    it is a word
 --     markWord-ones  its ones are the marks of its places
+--     markWord-digit, below   a digit of it, and those below a place
 --     Look, look     of the marks of a word the left-th, where k are all marks up to it
 --     look-inside    a place of the sequence, which is the answer
 --     look-past      or one behind it, and the k-th is missing
@@ -68,11 +69,11 @@ module _ (m : ℕ → ℕ) (small : (i : ℕ) → m i ≤ 1) (w : ℕ) where
   pub markWord-lt : markWord m w < 2 ^ wordBits
   markWord-lt = number-lt (λ t. m (w * wordBits + t)) (λ t. small (w * wordBits + t)) wordBits
 
-  markWord-digit : (t : ℕ) → t < wordBits → digit (markWord m w) t ≡ m (w * wordBits + t)
+  pub markWord-digit : (t : ℕ) → t < wordBits → digit (markWord m w) t ≡ m (w * wordBits + t)
   markWord-digit t l = digit-number (λ j. m (w * wordBits + j)) (λ j. small (w * wordBits + j)) wordBits t l
 
   -- the marks below a place of the word
-  below : (r : ℕ) → r ≤ wordBits → sumBelow m (w * wordBits + r) ≡ sumBelow m (w * wordBits) + sumBelow (digit (markWord m w)) r
+  pub below : (r : ℕ) → r ≤ wordBits → sumBelow m (w * wordBits + r) ≡ sumBelow m (w * wordBits) + sumBelow (digit (markWord m w)) r
   below r h =
       sumBelow-add m (w * wordBits) r
       ∙ ap (λ (x : ℕ). sumBelow m (w * wordBits) + x) (sumBelow-ext (λ t. m (w * wordBits + t)) (digit (markWord m w)) r (λ t l. sym (markWord-digit t (lt-of-lt-of-le l h))))

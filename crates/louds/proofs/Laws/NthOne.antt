@@ -1,6 +1,6 @@
 -- The place of the j-th one of a word: its byte is found by the ranks of all bytes at once, and ones are taken away from the bottom until it is the lowest.
 --
---     lowBits, topBits   the lowest bit of each byte, and the highest
+--     low-bits, top-bits   the lowest bit of each byte, and the highest, as fields
 --     sums-fit       what the machine adds and subtracts there does not wrap
 --     ByteFound, byte-found   where the byte of the j-th one begins
 --     Picking, picking-start   ones are taken away from the bottom
@@ -27,6 +27,7 @@ use Rattle.keymap.specs.Bits.{sumBelow}
 use Rattle.louds.specs.declared.Spot.{Spot}
 use Rattle.louds.specs.declared.Spot.the-variants.{At, Missing}
 use Rattle.louds.specs.Digits.{digit, above}
+use Rattle.louds.specs.Taking.{lowBits, topBits}
 use Rattle.louds.specs.Nodes.{orEnd}
 use Rattle.louds.specs.Select.{kth}
 use Rattle.louds.proofs.Laws.Words.{ones-low}
@@ -37,18 +38,11 @@ use Rattle.louds.proofs.Laws.ByteRanks.{ones-parts, ranked, ranked-zero
 
 -- ---- the byte of the j-th one
 
--- the lowest bit of each byte of a word, and the highest
-abbrev pub lowBits : ℕ
-lowBits = 72340172838076673
-
-abbrev pub topBits : ℕ
-topBits = 9259542123273814144
-
-low-bits : (j : ℕ) → joined 8 (λ i. j) 8 ≡ j * lowBits
+pub low-bits : (j : ℕ) → joined 8 (λ i. j) 8 ≡ j * lowBits
 unfolding sumBelow
 low-bits j = omega arith
 
-top-bits : joined 8 (λ i. 128) 8 ≡ topBits
+pub top-bits : joined 8 (λ i. 128) 8 ≡ topBits
 unfolding sumBelow
 top-bits = refl
 

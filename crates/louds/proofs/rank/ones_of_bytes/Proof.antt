@@ -1,20 +1,20 @@
 -- `louds::rank::ones_of_bytes` meets its contract: each of its three lines counts in fields twice as wide, and none runs over. Assumes nothing.
 use native.Mathlib.Omega.{arith}
-use Rattle.louds.proofs.Laws.ByteRanks.{twos-lt, fours-lt, eights-lt, eights-count}
+use Rattle.louds.proofs.Laws.ByteRanks.{lean-less, lean-fours-lt, lean-both-lt, lean-count}
 use Rattle.louds.proofs.rank.ones_of_bytes.Statement.{statement}
 use Rattle.louds.proofs.rank.ones_of_bytes.Tie as tie
 
-add-twos : tie.Need-add-twos
-add-twos c = omega (arith, twos-lt (c .args .word))
+sub-twos : tie.Need-sub-twos
+sub-twos c = lean-less (c .args .word) (c .fits .word .fits)
 
 add-fours : tie.Need-add-fours
-add-fours c = omega (arith, fours-lt (c .args .word))
+add-fours c = omega (arith, lean-fours-lt (c .args .word) (c .fits .word .fits))
 
 add-result : tie.Need-add-result
-add-result c = omega (arith, eights-lt (c .args .word))
+add-result c = omega (arith, lean-both-lt (c .args .word) (c .fits .word .fits))
 
 returns : tie.Need-returns
-returns c = eights-count (c .args .word)
+returns c = lean-count (c .args .word) (c .fits .word .fits)
 
 pub ones-of-bytes-spec : {M : Type 1} → statement M
-ones-of-bytes-spec = tie.close (tie.spec add-twos add-fours add-result returns)
+ones-of-bytes-spec = tie.close (tie.spec sub-twos add-fours add-result returns)

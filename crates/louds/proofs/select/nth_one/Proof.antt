@@ -7,9 +7,10 @@ use Rattle.keymap.specs.Limits.{wordBits}
 use Rattle.louds.specs.declared.Spot.the-variants.{At}
 use Rattle.louds.specs.Digits.{digit}
 use Rattle.louds.specs.Nodes.{orEnd}
+use Rattle.louds.specs.Taking.{lowBits, topBits}
 use Rattle.louds.specs.Select.{kth}
 use Rattle.louds.proofs.Laws.Select.{kth-told}
-use Rattle.louds.proofs.Laws.NthOne.{lowBits, topBits, sums-fit, ByteFound, byte-found, has-kth, from-byte}
+use Rattle.louds.proofs.Laws.NthOne.{sums-fit, ByteFound, byte-found, has-kth, from-byte}
 use Rattle.louds.proofs.select.nth_one.Statement.{statement}
 use Rattle.louds.proofs.select.nth_one.Tie as tie
 

@@ -1,0 +1,5 @@
+pub mod Rule
+pub mod Stands
+pub mod Far
+pub mod MapNodes
+pub mod Glide

@@ -1,0 +1,43 @@
+-- `searches::common_prefixes::common_prefix_part` meets its contract: what the first call says is no longer than the query (`part-is`), and the part begins where the query does. Assumes nothing.
+use mathlib.Core.Path.{_≡_, refl, sym, ap, _∙_}
+use Prim.Native.Nat.{ℕ, _≤_}
+use native.Mathlib.Omega.{arith}
+use lib.ListN.{length, take}
+use lib.Seq.{length-take-le}
+use borrow.Author.Needs.{needs}
+use Rattle.keymap.specs.Image.{Image}
+use Rattle.image.specs.Meaning.{lent}
+use Rattle.searches.specs.CommonPrefixes.{commonPart}
+use Rattle.searches.proofs.Laws.CommonPrefixes.{part-is}
+use Rattle.searches.proofs.common_prefixes.common_prefix_part.Statement.{statement}
+use Rattle.searches.proofs.common_prefixes.common_prefix_part.Tie as tie
+
+abbrev imageAt : tie.Start → Image
+imageAt start = lent (start .args .labels .now) (start .args .values .now) (start .args .words .now)
+
+common-prefix-requires : tie.Need-common-prefix-requires
+common-prefix-requires c κs = search needs
+
+part-length-requires : tie.Need-part-length-requires
+part-length-requires c κs = search needs
+
+-- the length is within the query, and the part is the definition's
+part : (c : tie.After-part-length)
+    → (c .part-length .result ≤ length (c .before .before .before .before .before .before .args .query .now))
+    × (take (c .part-length .result) (c .before .before .before .before .before .before .args .query .now) ≡ commonPart (imageAt (c .before .before .before .before .before .before)) (c .before .before .before .before .before .before .args .query .now) (c .before .before .before .before .before .before .args .seen))
+part c =
+    let start = c .before .before .before .before .before .before in
+    let q = start .args .query .now in
+    let (within, same) = part-is (imageAt start) q (start .args .seen) (c .before .common-prefix .result) (c .before .common-prefix .ensures) in
+    (omega (arith, c .part-length .ensures, within), ap (λ (n : ℕ). take n q) (c .part-length .ensures) ∙ same)
+
+slice-aggregate-result : tie.Need-slice-aggregate-result
+slice-aggregate-result c =
+    sym (length-take-le (c .before .part-length .result) (c .before .before .before .before .before .before .before .args .query .now) (part (c .before) .0))
+
+returns : tie.Need-returns
+returns c = (part (c .before) .1, refl)
+
+pub common-prefix-part-spec : {M : Type 1} → statement M
+common-prefix-part-spec =
+    tie.close (tie.spec common-prefix-requires part-length-requires slice-aggregate-result returns)

@@ -1,0 +1,179 @@
+-- `searches::common_prefixes::shortest` meets its contract. The invariant: the stand knows its zero, and what the walk finds is what is found from its node on. Assumes nothing.
+use mathlib.Core.Path.{_≡_, sym, ap, _∙_}
+use mathlib.Core.List.{[]}
+use mathlib.Core.Option.{Option, none, some}
+use Prim.Native.Nat.{ℕ, _+_, _-_, _≤_}
+use native.Mathlib.Omega.{arith}
+use lib.ListN.{length, getD, drop}
+use lib.Seq.{drop-length}
+use borrow.Author.Needs.{needs}
+use Rattle.keymap.specs.Bits.{bit}
+use Rattle.keymap.specs.Image.{Image, bitsFor}
+use Rattle.keymap.proofs.Laws.Bits.{bit-small}
+use Rattle.image.specs.Meaning.{lent}
+use Rattle.walks.specs.declared.stands.Stand.{Stand}
+use Rattle.walks.specs.declared.moves.Reached.{Reached}
+use Rattle.walks.specs.Rule.{childBy, valueOfNode}
+use Rattle.walks.specs.Stands.{standAt, downFrom, reachedAt}
+use Rattle.walks.proofs.Laws.Stands.{down-rule, ReachedTold, reachedAt-to, reachedAt-lost, heldOf-value, heldOf-none}
+use Rattle.searches.specs.CommonPrefixes.{unlessSeen, orFurther, shortestFrom, matchOf}
+use Rattle.searches.proofs.Laws.CommonPrefixes.{shortest-end, shortest-next, shortest-lost}
+use Rattle.searches.proofs.common_prefixes.shortest.Statement.{statement}
+use Rattle.searches.proofs.common_prefixes.shortest.Tie as tie
+
+abbrev Inv-loop : tie.InvT-loop
+Inv-loop labels values words query seen len s₀ depth₀ s depth =
+    (depth ≤ length query)
+    × (s ≡ standAt (bit words) (bitsFor (length labels)) (s .node))
+    × (shortestFrom (lent labels values words) seen query 0 (some 1) ≡ shortestFrom (lent labels values words) seen (drop depth query) depth (some (s .node)))
+
+abbrev μ-loop : tie.MeasureT-loop
+μ-loop labels values words query seen len s₀ depth₀ s depth = length query - depth
+
+abbrev imageAt : tie.Start Inv-loop μ-loop → Image
+imageAt start = lent (start .args .labels .now) (start .args .values .now) (start .args .words .now)
+
+mul-len : tie.Need-mul-len Inv-loop μ-loop
+mul-len c = search needs
+
+add-len : tie.Need-add-len Inv-loop μ-loop
+add-len c = search needs
+
+stand-at-requires : tie.Need-stand-at-requires Inv-loop μ-loop
+stand-at-requires c κs = search needs
+
+loop-holds : tie.Need-loop-holds Inv-loop μ-loop
+loop-holds c =
+    let start = c .before .before .before .before .before in
+    let a = start .args in
+    let told = c .stand-at .ensures in
+    let one : c .stand-at .result .node ≡ 1 = ap (λ (s : Stand). s .node) told in
+    (omega arith, told ∙ ap (standAt (bit (a .words .now)) (bitsFor (length (a .labels .now)))) (sym one), ap (λ k. shortestFrom (imageAt start) (a .seen) (a .query .now) 0 (some k)) (sym one))
+
+shared-slice-read-down : tie.Need-shared-slice-read-down Inv-loop μ-loop
+shared-slice-read-down c = search needs
+
+down-requires : tie.Need-down-requires Inv-loop μ-loop
+down-requires c κs = search needs
+
+-- what a step answers, by the rule
+step : (c : tie.After-down Inv-loop μ-loop) (t : Reached) → c .down .result ≡ t
+    → reachedAt (bit (c .before .before .before .before .before .before .before .before .before .args .words .now)) (bitsFor (length (c .before .before .before .before .before .before .before .before .before .args .labels .now)))
+    (childBy (c .before .before .before .before .before .before .before .before .before .args .labels .now) (bit (c .before .before .before .before .before .before .before .before .before .args .words .now)) (bitsFor (length (c .before .before .before .before .before .before .before .before .before .args .labels .now))) (c .before .before .before .loop .s .node) (getD (c .before .before .before .before .before .before .before .before .before .args .query .now) (c .before .before .before .loop .depth) 0))
+    ≡ t
+step c t e =
+    let a = c .before .before .before .before .before .before .before .before .before .args in
+    let l = c .before .before .before .loop in
+    let b = bit (a .words .now) in
+    let len = bitsFor (length (a .labels .now)) in
+    let label = getD (a .query .now) (l .depth) 0 in
+    sym (down-rule b (bit-small (a .words .now)) len (a .labels .now) (l .s .node) label)
+    ∙ ap (λ (s : Stand). downFrom (a .labels .now) b len s label) (sym (l .inv .1))
+    ∙ sym (c .down .ensures)
+    ∙ e
+
+enum-known-t : tie.Need-enum-known-t Inv-loop μ-loop
+enum-known-t c = c .match .keys1
+
+enum-told : tie.Need-enum-told Inv-loop μ-loop
+enum-told c = c .match .keys2
+
+returns : tie.Need-returns Inv-loop μ-loop
+returns c =
+    let start = c .before .before .before .before .before .before .before .before .before .before .before in
+    let a = start .args in
+    let l = c .before .before .before .before .before .loop in
+    let lost = reachedAt-lost (bit (a .words .now)) (bitsFor (length (a .labels .now))) _ (step (c .before .before) _ (c .enum-told .given .1)) in
+    sym (ap matchOf (l .inv .2 ∙ shortest-lost (imageAt start) (a .seen) (a .query .now) (l .depth) (some (l .s .node)) (omega arith) lost))
+
+add-depth : tie.Need-add-depth Inv-loop μ-loop
+add-depth c = omega arith
+
+unseen-value-requires : tie.Need-unseen-value-requires Inv-loop μ-loop
+unseen-value-requires c κs = search needs
+
+enum-known-value : tie.Need-enum-known-value Inv-loop μ-loop
+enum-known-value c = c .match2 .keys1
+
+-- where the step led, and what is found from there on
+there : (c : tie.After-known-told Inv-loop μ-loop)
+    → ReachedTold (bit (c .before .before .before .before .before .before .before .before .before .before .before .before .args .words .now)) (bitsFor (length (c .before .before .before .before .before .before .before .before .before .before .before .before .args .labels .now)))
+    (childBy (c .before .before .before .before .before .before .before .before .before .before .before .before .args .labels .now) (bit (c .before .before .before .before .before .before .before .before .before .before .before .before .args .words .now)) (bitsFor (length (c .before .before .before .before .before .before .before .before .before .before .before .before .args .labels .now))) (c .before .before .before .before .before .before .loop .s .node) (getD (c .before .before .before .before .before .before .before .before .before .before .before .before .args .query .now) (c .before .before .before .before .before .before .loop .depth) 0))
+    (c .before .t .given .0 .0)
+there c =
+    let a = c .before .before .before .before .before .before .before .before .before .before .before .before .args in
+    reachedAt-to (bit (a .words .now)) (bitsFor (length (a .labels .now))) _ _ (step (c .before .before .before) _ (c .before .t .given .1))
+
+onward : (c : tie.After-known-told Inv-loop μ-loop)
+    → shortestFrom (imageAt (c .before .before .before .before .before .before .before .before .before .before .before .before)) (c .before .before .before .before .before .before .before .before .before .before .before .before .args .seen) (c .before .before .before .before .before .before .before .before .before .before .before .before .args .query .now) 0 (some 1)
+    ≡ orFurther (c .before .before .before .before .before .before .loop .depth + 1)
+    (unlessSeen (c .before .before .before .before .before .before .before .before .before .before .before .before .args .seen) (c .before .before .before .before .before .before .loop .depth + 1) (valueOfNode (c .before .before .before .before .before .before .before .before .before .before .before .before .args .labels .now) (c .before .before .before .before .before .before .before .before .before .before .before .before .args .values .now) (c .before .t .given .0 .0 .node)))
+    (shortestFrom (imageAt (c .before .before .before .before .before .before .before .before .before .before .before .before)) (c .before .before .before .before .before .before .before .before .before .before .before .before .args .seen) (drop (c .before .before .before .before .before .before .loop .depth + 1) (c .before .before .before .before .before .before .before .before .before .before .before .before .args .query .now)) (c .before .before .before .before .before .before .loop .depth + 1) (some (c .before .t .given .0 .0 .node)))
+onward c =
+    let start = c .before .before .before .before .before .before .before .before .before .before .before .before in
+    let a = start .args in
+    let l = c .before .before .before .before .before .before .loop in
+    l .inv .2 ∙ shortest-next (imageAt start) (a .seen) (a .query .now) (l .depth) (some (l .s .node)) (some (c .before .t .given .0 .0 .node)) (omega arith) (there c .node)
+
+returns-2 : tie.Need-returns-2 Inv-loop μ-loop
+returns-2 c =
+    let k = c .before .before .before .before in
+    let a = k .before .before .before .before .before .before .before .before .before .before .before .before .args in
+    let l = k .before .before .before .before .before .before .loop in
+    let node = k .before .t .given .0 .0 .node in
+    let held = heldOf-value (unlessSeen (a .seen) (l .depth + 1) (valueOfNode (a .labels .now) (a .values .now) node)) _ (sym (c .before .before .before .unseen-value .ensures) ∙ c .before .value .given .1) in
+    let further = shortestFrom (imageAt (k .before .before .before .before .before .before .before .before .before .before .before .before)) (a .seen) (drop (l .depth + 1) (a .query .now)) (l .depth + 1) (some node) in
+    sym (ap matchOf (onward k ∙ ap (λ (o : Option ℕ). orFurther (l .depth + 1) o further) held))
+
+enum-told-2 : tie.Need-enum-told-2 Inv-loop μ-loop
+enum-told-2 c = c .match2 .keys2
+
+loop-less : tie.Need-loop-less Inv-loop μ-loop
+loop-less c = omega arith
+
+loop-again : tie.Need-loop-again Inv-loop μ-loop
+loop-again c =
+    let k = c .before .before .before in
+    let a = k .before .before .before .before .before .before .before .before .before .before .before .before .args in
+    let l = k .before .before .before .before .before .before .loop in
+    let node = k .before .t .given .0 .0 .node in
+    let held = heldOf-none (unlessSeen (a .seen) (l .depth + 1) (valueOfNode (a .labels .now) (a .values .now) node)) (sym (c .before .before .unseen-value .ensures) ∙ c .enum-told2 .given .1) in
+    let further = shortestFrom (imageAt (k .before .before .before .before .before .before .before .before .before .before .before .before)) (a .seen) (drop (l .depth + 1) (a .query .now)) (l .depth + 1) (some node) in
+    (omega arith, there k .knows, onward k ∙ ap (λ (o : Option ℕ). orFurther (l .depth + 1) o further) held)
+
+returns-3 : tie.Need-returns-3 Inv-loop μ-loop
+returns-3 c =
+    let start = c .before .before .before .before .before .before .before in
+    let a = start .args in
+    let l = c .before .loop in
+    let end : l .depth ≡ length (a .query .now) = omega arith in
+    let rest : drop (l .depth) (a .query .now) ≡ [] = ap (λ n. drop n (a .query .now)) end ∙ drop-length (a .query .now) in
+    sym
+    (ap matchOf
+    (l .inv .2
+    ∙ ap (λ r. shortestFrom (imageAt start) (a .seen) r (l .depth) (some (l .s .node))) rest
+    ∙ shortest-end (imageAt start) (a .seen) (l .depth) (some (l .s .node))))
+
+pub shortest-spec : {M : Type 1} → statement M
+shortest-spec =
+    tie.close
+    (tie.spec
+    Inv-loop
+    μ-loop
+    mul-len
+    add-len
+    stand-at-requires
+    loop-holds
+    shared-slice-read-down
+    down-requires
+    enum-known-t
+    enum-told
+    returns
+    add-depth
+    unseen-value-requires
+    enum-known-value
+    returns-2
+    enum-told-2
+    loop-less
+    loop-again
+    returns-3)

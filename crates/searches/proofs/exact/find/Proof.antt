@@ -1,0 +1,76 @@
+-- `searches::exact::find` meets its contract: the walk's node and what it holds are the definition's. Assumes nothing.
+use mathlib.Core.Path.{sym, _∙_}
+use borrow.Author.Needs.{needs}
+use Rattle.keymap.specs.Image.{Image}
+use Rattle.image.specs.Meaning.{lent}
+use Rattle.walks.specs.Rule.{valueOfNode, nodeBy}
+use Rattle.walks.proofs.Laws.Stands.{childOf-node, childOf-absent, heldOf-value, heldOf-none}
+use Rattle.searches.proofs.Laws.Exact.{keyedIn-lost, keyedIn-plain, keyedIn-held}
+use Rattle.searches.proofs.exact.find.Statement.{statement}
+use Rattle.searches.proofs.exact.find.Tie as tie
+
+abbrev imageAt : tie.Start → Image
+imageAt start = lent (start .args .labels .now) (start .args .values .now) (start .args .words .now)
+
+mul-len : tie.Need-mul-len
+mul-len c = search needs
+
+add-len : tie.Need-add-len
+add-len c = search needs
+
+end-of-requires : tie.Need-end-of-requires
+end-of-requires c κs = search needs
+
+enum-known-node : tie.Need-enum-known-node
+enum-known-node c = c .match .keys1
+
+enum-told : tie.Need-enum-told
+enum-told c = c .match .keys2
+
+returns : tie.Need-returns
+returns c =
+    let start = c .before .before .before .before .before .before .before in
+    sym (keyedIn-lost (imageAt start) (start .args .query .now) (childOf-absent (nodeBy (imageAt start) (start .args .query .now)) (sym (c .before .before .end-of .ensures) ∙ c .enum-told .given .1)))
+
+value-at-requires : tie.Need-value-at-requires
+value-at-requires c κs = search needs
+
+enum-known-value : tie.Need-enum-known-value
+enum-known-value c = c .match2 .keys1
+
+enum-told-2 : tie.Need-enum-told-2
+enum-told-2 c = c .match2 .keys2
+
+returns-2 : tie.Need-returns-2
+returns-2 c =
+    let start = c .before .before .before .before .before .before .before .before .before .before .before .before in
+    let a = start .args in
+    let at = c .before .before .before .before .before .node .given in
+    let end = childOf-node (nodeBy (imageAt start) (a .query .now)) _ (sym (c .before .before .before .before .before .before .before .end-of .ensures) ∙ at .1) in
+    let held = heldOf-value (valueOfNode (a .labels .now) (a .values .now) (at .0 .0)) _ (sym (c .before .before .before .value-at .ensures) ∙ c .before .value .given .1) in
+    sym (keyedIn-held (imageAt start) (a .query .now) _ end _ held)
+
+returns-3 : tie.Need-returns-3
+returns-3 c =
+    let start = c .before .before .before .before .before .before .before .before .before .before .before in
+    let a = start .args in
+    let at = c .before .before .before .before .node .given in
+    let end = childOf-node (nodeBy (imageAt start) (a .query .now)) _ (sym (c .before .before .before .before .before .before .end-of .ensures) ∙ at .1) in
+    let held = heldOf-none (valueOfNode (a .labels .now) (a .values .now) (at .0 .0)) (sym (c .before .before .value-at .ensures) ∙ c .enum-told2 .given .1) in
+    sym (keyedIn-plain (imageAt start) (a .query .now) _ end held)
+
+pub find-spec : {M : Type 1} → statement M
+find-spec =
+    tie.close
+    (tie.spec
+    mul-len
+    add-len
+    end-of-requires
+    enum-known-node
+    enum-told
+    returns
+    value-at-requires
+    enum-known-value
+    enum-told-2
+    returns-2
+    returns-3)

@@ -1,0 +1,112 @@
+-- `searches::exact::set_value` meets its contract: of an image that no map has it answers 6, else what the map holds; and it writes the key's own entry. Assumes nothing.
+use mathlib.Core.Path.{_≡_, sym, ap, _∙_}
+use Prim.Native.Nat.{ℕ, _-_}
+use native.Mathlib.Omega.{arith}
+use mathlib.Core.Bool.{true}
+use lib.ListN.{set}
+use borrow.Author.Needs.{needs}
+use borrow.Author.Tests.{not-true, not-false}
+use Rattle.keymap.specs.Image.{Image}
+use Rattle.image.specs.AcceptTest.{imageTest}
+use Rattle.image.specs.Meaning.{lent, MapImage}
+use Rattle.image.proofs.Laws.Meaning.{tested-mapImage}
+use Rattle.keymap.specs.Answers.{saysValue}
+use Rattle.walks.proofs.Laws.MapWalk.{value-rule}
+use Rattle.searches.proofs.Laws.Exact.{Found, keyed-found, keyed-missed, found-inside, found-key, exactSays-refused, exactSays-accepted, setValues-refused, setValues-absent, setValues-present}
+use Rattle.searches.proofs.exact.set_value.Statement.{statement}
+use Rattle.searches.proofs.exact.set_value.Tie as tie
+
+abbrev imageAt : tie.Start → Image
+imageAt start = lent (start .args .labels .now) (start .args .values .now) (start .args .words .now)
+
+is-image-requires : tie.Need-is-image-requires
+is-image-requires c κs = search needs
+
+same-length : tie.Need-same-length
+same-length c = search needs
+
+returns : tie.Need-returns
+returns c =
+    let start = c .before .before .before .before .before .before .before in
+    let i = imageAt start in
+    let q = start .args .query .now in
+    let refused = sym (c .before .is-image .ensures) ∙ not-true _ (c .if1 .taken) in
+    (sym (exactSays-refused i q refused), sym (setValues-refused i q refused (start .args .value)))
+
+-- past the test the image is a map's
+tested : (c : tie.Else1) → imageTest (imageAt (c .before .before .before .before .before .before .before)) ≡ true
+tested c = sym (c .before .is-image .ensures) ∙ not-false _ (c .if1 .left)
+
+whole : (c : tie.Else1) → MapImage (imageAt (c .before .before .before .before .before .before .before))
+whole c =
+    tested-mapImage (imageAt (c .before .before .before .before .before .before .before))
+    (record { words-wide = λ w. c .before .before .before .before .shared-slice-known2 .given w .fits; values-wide = λ e. c .before .before .before .before .before .slice-known .given e .fits })
+    (tested c)
+
+find-requires : tie.Need-find-requires
+find-requires c κs = search needs
+
+enum-known-node : tie.Need-enum-known-node
+enum-known-node c = c .match .keys1
+
+enum-told : tie.Need-enum-told
+enum-told c = c .match .keys2
+
+same-length-2 : tie.Need-same-length-2
+same-length-2 c = search needs
+
+returns-2 : tie.Need-returns-2
+returns-2 c =
+    let start = c .before .before .before .before .before .before .before .before .before .before .before in
+    let i = imageAt start in
+    let q = start .args .query .now in
+    let accepted = tested (c .before .before .before .before) in
+    let absent = sym (value-rule i (whole (c .before .before .before .before)) q) ∙ keyed-missed i q (sym (c .before .before .find .ensures) ∙ c .enum-told .given .1) in
+    (sym (exactSays-accepted i q accepted ∙ ap saysValue absent), sym (setValues-absent i q accepted (start .args .value) absent))
+
+-- the key that was found
+found : (c : tie.After-known-told)
+    → Found (imageAt (c .before .before .before .before .before .before .before .before .before .before .before .before)) (c .before .before .before .before .before .before .before .before .before .before .before .before .args .query .now) (c .before .node .given .0 .0) (c .before .node .given .0 .1 .0)
+found c = keyed-found _ _ _ _ (sym (c .before .before .before .find .ensures) ∙ c .before .node .given .1)
+
+sub-values : tie.Need-sub-values
+sub-values c = omega (arith, found-inside _ _ _ _ (found c))
+
+mul-values : tie.Need-mul-values
+mul-values c = omega (arith, found-inside _ _ _ _ (found c))
+
+slice-write-values : tie.Need-slice-write-values
+slice-write-values c = omega (arith, found-inside _ _ _ _ (found c))
+
+same-length-3 : tie.Need-same-length-3
+same-length-3 c = search needs
+
+returns-3 : tie.Need-returns-3
+returns-3 c =
+    let start = c .before .before .before .before .before .before .before .before .before .before .before .before in
+    let i = imageAt start in
+    let q = start .args .query .now in
+    let v = start .args .value in
+    let accepted = tested (c .before .before .before .before .before) in
+    let (number, held) = found-key i (whole (c .before .before .before .before .before)) q _ _ (found c) in (
+      sym (exactSays-accepted i q accepted ∙ ap saysValue held),
+      ap (λ (k : ℕ). set (start .args .values .now) (k - 2) v) number ∙ sym (setValues-present i q accepted v _ held),
+    )
+
+pub set-value-spec : {M : Type 1} → statement M
+set-value-spec =
+    tie.close
+    (tie.spec
+    is-image-requires
+    same-length
+    returns
+    find-requires
+    enum-known-node
+    enum-told
+    same-length-2
+    returns-2
+    sub-values
+    mul-values
+    slice-write-values
+    same-length-3
+    returns-3)

@@ -1,0 +1,5 @@
+pub mod Laws
+pub mod AsksNothing
+pub mod Determined
+pub mod Ties
+pub mod Worked

@@ -1,0 +1,5 @@
+pub mod Answers
+pub mod Cursors
+pub mod Listing
+pub mod GivenKey
+pub mod Numbers

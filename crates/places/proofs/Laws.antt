@@ -1,0 +1,6 @@
+-- The laws of the definitions, and what they say on an image that some map has. Assumes nothing.
+pub mod Answers
+pub mod Incremental
+pub mod Places
+pub mod Moves
+pub mod MapMoves

@@ -1,0 +1,6 @@
+pub mod Laws
+pub mod Held
+pub mod AsksNothing
+pub mod Determined
+pub mod Ties
+pub mod Worked

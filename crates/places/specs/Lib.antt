@@ -1,0 +1,3 @@
+pub mod Incremental
+pub mod Places
+pub mod Moves

@@ -11,10 +11,13 @@ ghost use Rattle.image.specs.Build.{buildSays, buildLabels, buildValues, buildW
 ghost use Rattle.image.specs.Meaning.{lent, MapImage};
 ghost use Rattle.lines.specs.Writing.{mapText};
 use crate::putting::put_value;
+use climbs::answers::Spelled;
 use image::answers::Built;
-use trie::Spelled;
-use trie::Started;
-use trie::Stepped;
+use listings::answers::Started;
+use listings::answers::Stepped;
+use listings::cursor_key;
+use listings::predictive_search;
+use listings::step;
 
 // Builds the image of a pool's map and puts its listing at the start of `out`; answers the listing's length.
 pub fn list_pool(
@@ -54,7 +57,7 @@ fn list_image(labels: &[u16], values: &[u32], words: &[u64], out: &mut [u8]) -> 
     ensures answer { λ r. ⌜ r ≡ length (mapText (imageMap (lent (now (labels .entry)) (now (values .entry)) (now (words .entry))))) ⌝ }
     ensures out { λ _. ⌜ now (out .exit) ≡ over (mapText (imageMap (lent (now (labels .entry)) (now (values .entry)) (now (words .entry))))) (now (out .entry)) ⌝ }
 {
-    let Started::At(start) = trie::predictive_search(labels, values, words, b"") else {
+    let Started::At(start) = predictive_search(labels, values, words, b"") else {
         return 0;
     };
     let mut cursor = start;
@@ -64,12 +67,11 @@ fn list_image(labels: &[u16], values: &[u32], words: &[u64], out: &mut [u8]) -> 
             node: _,
             value,
             next,
-        } = trie::step(labels, values, words, cursor)
+        } = step(labels, values, words, cursor)
         else {
             return at;
         };
-        let Spelled::Wrote(spelled) = trie::cursor_key(labels, values, words, next, &mut out[at..])
-        else {
+        let Spelled::Wrote(spelled) = cursor_key(labels, values, words, next, &mut out[at..]) else {
             return at;
         };
         at = put_value(value, at + spelled, out);

@@ -19,11 +19,11 @@ use denote.Lend.{lends-ref, ref-back}
 use denote.Steps.{peeks, heard}
 use denote.Struct.Steps.{spelt}
 use denote.Struct.Laws as LL
-use Rattle.trie.specs.declared.place.Place.{Place}
-use Rattle.trie.specs.Incremental.{placeAt}
-use Rattle.trie.proofs.place.Held.{URA, Val, vptr, ent, GName, Fml, fat, flft, fullShare, Heap, Atoms, sem, fact, Given, Item, ‵, raw, some, later, _⊛_, _$_, _∵_, !, qed, move, drop, use1, split, fsplit, fjoin, done, Body, mem, Is, RefT, MutRef, owned, mach}
-use Rattle.trie.proofs.place.Place as T
-use Rattle.trie.proofs.place.Place.Laws as T′
+use Rattle.places.specs.declared.answers.Place.{Place}
+use Rattle.places.specs.Incremental.{placeAt}
+use Rattle.places.proofs.Held.{URA, Val, vptr, ent, GName, Fml, fat, flft, fullShare, Heap, Atoms, sem, fact, Given, Item, ‵, raw, some, later, _⊛_, _$_, _∵_, !, qed, move, drop, use1, split, fsplit, fjoin, done, Body, mem, Is, RefT, MutRef, owned, mach}
+use Rattle.places.proofs.answers.Place as T
+use Rattle.places.proofs.answers.Place.Laws as T′
 pub use types.Run.{addr}
 pub use types.Part.{agg}
 

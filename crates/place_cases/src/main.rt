@@ -4,7 +4,18 @@
 // nodes, as how many there are, their labels, their values and the word of bits; and the name of the case, which ends with what is asked. The images are
 // the empty map's; A's ("ab" 7, "b" 3); that of "a" 1, "ab" 2, where "a" has the place that it has in A; and the last with one bit too many, which is none.
 ghost use Rattle.image.specs.Meaning.{lent};
-ghost use Rattle.trie.specs.Incremental.{placeAt, QueryPromise, FollowPromise, GotoPromise};
+ghost use Rattle.places.specs.Incremental.{placeAt, QueryPromise, FollowPromise, GotoPromise};
+use places::Answer;
+use places::FollowMove;
+use places::Followed;
+use places::Gone;
+use places::GotoMove;
+use places::Place;
+use places::Queried;
+use places::QueryMove;
+use places::goto_longest_prefix;
+use places::query;
+use places::query_until;
 use replay::lists::read_list;
 use replay::memory::of_labels;
 use replay::memory::of_values;
@@ -13,17 +24,6 @@ use replay::text::hex;
 use replay::text::letter;
 use replay::text::line_at;
 use replay::text::number as number_of;
-use trie::place::Answer;
-use trie::place::FollowMove;
-use trie::place::Followed;
-use trie::place::Gone;
-use trie::place::GotoMove;
-use trie::place::Place;
-use trie::place::Queried;
-use trie::place::QueryMove;
-use trie::place::goto_longest_prefix;
-use trie::place::query;
-use trie::place::query_until;
 
 // Where the image's parts and the name stand in a line, and what is asked of `query` and of `query_until`.
 const COUNT: usize = 11;

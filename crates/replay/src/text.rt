@@ -97,6 +97,7 @@ pub fn key(letter: u8, n: u32, line: &[u8], out: &mut [u8]) -> usize
 {
     match letter {
         b'E' => of_bytes(out, n as usize),
+        b'J' => of_bytes(out, n as usize),
         b'Q' => of_bytes(out, n as usize),
         _ => bytes(line, out),
     }

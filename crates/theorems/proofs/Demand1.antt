@@ -40,21 +40,24 @@ use Rattle.image.proofs.Laws.Accept.{accepted-iff}
 use Rattle.keymap.specs.Buffers.{over}
 use Rattle.lines.specs.TabLine.{entrySays, entryKey, tabEntry, tabLineSays, tabLineKey}
 use Rattle.lines.specs.Writing.{tabText, writeLineSays, writeLineOut}
-use Rattle.trie.specs.declared.Cursor.{Cursor}
-use Rattle.trie.specs.Answers.{onImage, saysValue}
-use Rattle.trie.specs.Exact.{exactSays, setAt, setValues}
-use Rattle.trie.specs.Prefix.{saysWritten, writtenTo, saysLongest, writtenLongest, longestSays, longestOut}
-use Rattle.trie.specs.CommonPrefixes.{saysCommon, partOf, commonSays, commonPart}
-use Rattle.trie.specs.Cursors.{given, belongs, onCursor}
-use Rattle.trie.specs.GivenKey.{saysKey, writtenKey, keyOf, keySays, keyOut}
-use Rattle.trie.specs.Incremental.{onPlace, saysOk, saysErr, pathSays, walkable, commonBelow, distanceSays, queryIn, gotoIn, querySays, queryMoves, followIn, followSays, followMoves, gotoSays, gotoMoves}
-use Rattle.trie.specs.Places.{resumeSays, valueSays, prefixLenSays, prefixSays, prefixOut}
-use Rattle.trie.proofs.Laws.Exact.{exactSays-refused, isPrefixSays-refused}
-use Rattle.trie.proofs.Laws.CommonPrefixes.{commonSays-refused}
-use Rattle.trie.proofs.Laws.Prefix.{longest-refused}
-use Rattle.trie.proofs.Laws.Cursors.{startSays-refused, stepSays-refused}
-use Rattle.trie.proofs.Laws.GivenKey.{key-refused}
-use Rattle.trie.proofs.Laws.Places.{prefix-refused}
+use Rattle.listings.specs.declared.answers.Cursor.{Cursor}
+use Rattle.image.specs.AcceptAnswer.{onImage}
+use Rattle.keymap.specs.Answers.{saysValue}
+use Rattle.searches.specs.Exact.{exactSays, setAt, setValues}
+use Rattle.keymap.specs.Answers.{saysWritten, writtenTo}
+use Rattle.searches.specs.Prefix.{saysLongest, writtenLongest, longestSays, longestOut}
+use Rattle.searches.specs.CommonPrefixes.{saysCommon, partOf, commonSays, commonPart}
+use Rattle.keymap.specs.Answers.{given}
+use Rattle.listings.specs.Cursors.{belongs, onCursor}
+use Rattle.listings.specs.GivenKey.{saysKey, writtenKey, keyOf, keySays, keyOut}
+use Rattle.places.specs.Incremental.{onPlace, saysOk, saysErr, pathSays, walkable, commonBelow, distanceSays, queryIn, gotoIn, querySays, queryMoves, followIn, followSays, followMoves, gotoSays, gotoMoves}
+use Rattle.places.specs.Places.{resumeSays, valueSays, prefixLenSays, prefixSays, prefixOut}
+use Rattle.searches.proofs.Laws.Exact.{exactSays-refused, isPrefixSays-refused}
+use Rattle.searches.proofs.Laws.CommonPrefixes.{commonSays-refused}
+use Rattle.searches.proofs.Laws.Prefix.{longest-refused}
+use Rattle.listings.proofs.Laws.Cursors.{startSays-refused, stepSays-refused}
+use Rattle.listings.proofs.Laws.GivenKey.{key-refused}
+use Rattle.places.proofs.Laws.Places.{prefix-refused}
 use Rattle.theorems.specs.Demand1.{refuses, EveryDamaged, EveryPool, SoundPool, RefusalKeeps}
 
 -- ---- what is damaged

@@ -36,21 +36,22 @@ use Rattle.image.specs.History.{poolCalls}
 use Rattle.image.specs.AcceptTest.{imageTest}
 use Rattle.image.specs.Meaning.{MapImage}
 use Rattle.image.proofs.Laws.Meaning.{mapImage-tested}
-use Rattle.trie.specs.declared.Kind.{Kind}
-use Rattle.trie.specs.declared.Kind.the-variants.{Predictive, Postfix}
-use Rattle.trie.specs.declared.Cursor.the-variants.{Open}
-use Rattle.trie.specs.Answers.{saysValue}
-use Rattle.trie.specs.Exact.{setValues}
-use Rattle.trie.specs.Prefix.{saysWritten, writtenTo, longestSays, longestOut}
-use Rattle.trie.specs.CommonPrefixes.{commonPart}
-use Rattle.trie.specs.Cursors.{setOf, belongs, saysStep, stepSays}
-use Rattle.trie.specs.GivenKey.{givenKey, keySays, keyOut}
-use Rattle.trie.specs.Incremental.{queryIn, querySays, queryMoves, walkable, followIn, followSays, followMoves, commonBelow, gotoIn, gotoSays, gotoMoves}
-use Rattle.trie.specs.Places.{resumeSays, valueSays, prefixLenSays, prefixSays, prefixOut}
-use Rattle.trie.proofs.Laws.Image.{words-are}
-use Rattle.trie.proofs.Laws.Exact.{exactSays-accepted, isPrefixSays-accepted, setValues-absent, setValue-means-insert, setValue-keeps-image}
-use Rattle.trie.proofs.Laws.CommonPrefixes.{commonSays-accepted}
-use Rattle.trie.proofs.Laws.Cursors.{startSays-accepted, setOf-rising, setOf-in, top-node, belongs-at, nextIn-at, stepSays-finished, stepSays-open}
+use Rattle.listings.specs.declared.answers.Kind.{Kind}
+use Rattle.listings.specs.declared.answers.Kind.the-variants.{Predictive, Postfix}
+use Rattle.listings.specs.declared.answers.Cursor.the-variants.{Open}
+use Rattle.keymap.specs.Answers.{saysValue}
+use Rattle.searches.specs.Exact.{setValues}
+use Rattle.keymap.specs.Answers.{saysWritten, writtenTo}
+use Rattle.searches.specs.Prefix.{longestSays, longestOut}
+use Rattle.searches.specs.CommonPrefixes.{commonPart}
+use Rattle.listings.specs.Cursors.{setOf, belongs, saysStep, stepSays}
+use Rattle.listings.specs.GivenKey.{givenKey, keySays, keyOut}
+use Rattle.places.specs.Incremental.{queryIn, querySays, queryMoves, walkable, followIn, followSays, followMoves, commonBelow, gotoIn, gotoSays, gotoMoves}
+use Rattle.places.specs.Places.{resumeSays, valueSays, prefixLenSays, prefixSays, prefixOut}
+use Rattle.walks.proofs.Laws.MapImage.{words-are}
+use Rattle.searches.proofs.Laws.Exact.{exactSays-accepted, isPrefixSays-accepted, setValues-absent, setValue-means-insert, setValue-keeps-image}
+use Rattle.searches.proofs.Laws.CommonPrefixes.{commonSays-accepted}
+use Rattle.listings.proofs.Laws.Cursors.{startSays-accepted, setOf-rising, setOf-in, top-node, belongs-at, nextIn-at, stepSays-finished, stepSays-open}
 use Rattle.theorems.specs.Demand2.{AtPath, NoPlace, listedKey, Searches, setInMap, setInImage, setAll, setAllIn, AllSmall, EveryMap, EveryBuild}
 use Rattle.theorems.proofs.Listing.{listing-is}
 use Rattle.theorems.proofs.Demand3.{every-history}

@@ -19,13 +19,13 @@ use Rattle.keymap.proofs.Laws.Paths.{nodeOf-node, pathOf-nodeOf}
 use Rattle.image.specs.AcceptTest.{imageTest}
 use Rattle.image.specs.Meaning.{MapImage}
 use Rattle.image.proofs.Laws.Meaning.{mapImage-tested}
-use Rattle.trie.specs.declared.Kind.{Kind}
-use Rattle.trie.specs.declared.Kind.the-variants.{Predictive, Postfix}
-use Rattle.trie.specs.declared.Cursor.{Cursor}
-use Rattle.trie.specs.declared.Cursor.the-variants.{Open, Finished}
-use Rattle.trie.specs.Answers.{saidCursor}
-use Rattle.trie.specs.Cursors.{setOf, startSays, saysEnd, saysStep, stepSays}
-use Rattle.trie.proofs.Laws.Cursors.{setOf-rising, top-node, belongs-fresh, belongs-at, nextIn-at, startSays-accepted, stepSays-finished, stepSays-open}
+use Rattle.listings.specs.declared.answers.Kind.{Kind}
+use Rattle.listings.specs.declared.answers.Kind.the-variants.{Predictive, Postfix}
+use Rattle.listings.specs.declared.answers.Cursor.{Cursor}
+use Rattle.listings.specs.declared.answers.Cursor.the-variants.{Open, Finished}
+use Rattle.listings.specs.Answers.{saidCursor}
+use Rattle.listings.specs.Cursors.{setOf, startSays, saysEnd, saysStep, stepSays}
+use Rattle.listings.proofs.Laws.Cursors.{setOf-rising, top-node, belongs-fresh, belongs-at, nextIn-at, startSays-accepted, stepSays-finished, stepSays-open}
 use Rattle.theorems.specs.Listing.{heardCursor, nextCursor, stepsSay, listingSays, saysEntry, givenIn, listingIn}
 
 -- a cursor's numbers tell it

@@ -24,13 +24,13 @@ use Rattle.keymap.specs.Prefixes.{level, deepest, levels, prefixes}
 use Rattle.keymap.specs.Paths.{nodes, isNode, pathOf, indexOf, nodeOf}
 use Rattle.keymap.specs.Decode.{takeTrees, dropTrees, claim, rebuild, rowsFrom, degreesIn, rowsIn, decode, imageMap}
 use Rattle.image.specs.AcceptTest.{entryFits, labelsRise, oneFits, childlessFits, bitFits, passesFrom, lengthsFit, endsFit, imageTest}
-use Rattle.trie.specs.Exact.{exactSays, isPrefixSays}
-use Rattle.trie.specs.CommonPrefixes.{commonSays, commonPart}
-use Rattle.trie.specs.Prefix.{longestSays, longestOut}
-use Rattle.trie.specs.Places.{valueSays, prefixLenSays, prefixSays, prefixOut}
-use Rattle.trie.specs.Cursors.{belongs, startSays, stepSays}
-use Rattle.trie.specs.Incremental.{pathSays, querySays, queryMoves, walkable, followSays, followMoves, gotoSays, gotoMoves}
-use Rattle.trie.specs.GivenKey.{keySays, keyOut}
+use Rattle.searches.specs.Exact.{exactSays, isPrefixSays}
+use Rattle.searches.specs.CommonPrefixes.{commonSays, commonPart}
+use Rattle.searches.specs.Prefix.{longestSays, longestOut}
+use Rattle.places.specs.Places.{valueSays, prefixLenSays, prefixSays, prefixOut}
+use Rattle.listings.specs.Cursors.{belongs, startSays, stepSays}
+use Rattle.places.specs.Incremental.{pathSays, querySays, queryMoves, walkable, followSays, followMoves, gotoSays, gotoMoves}
+use Rattle.listings.specs.GivenKey.{keySays, keyOut}
 use Rattle.theorems.specs.Built.{builtImage}
 use Rattle.theorems.specs.Worked.{builtSays, built, listed, says, lines, WorkedLines}
 

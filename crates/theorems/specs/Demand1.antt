@@ -31,15 +31,15 @@ use Rattle.image.specs.AcceptAnswer.{acceptSays}
 use Rattle.image.specs.Build.{buffersFit, buildSays, buildLabels, buildValues, buildWords, buildScratch}
 use Rattle.lines.specs.TabLine.{tabLineSays, tabLineKey}
 use Rattle.lines.specs.Writing.{writeLineSays, writeLineOut}
-use Rattle.trie.specs.declared.Kind.{Kind}
-use Rattle.trie.specs.declared.Cursor.{Cursor}
-use Rattle.trie.specs.Exact.{exactSays, setValues, isPrefixSays}
-use Rattle.trie.specs.Prefix.{longestSays, longestOut}
-use Rattle.trie.specs.CommonPrefixes.{commonSays, commonPart}
-use Rattle.trie.specs.Cursors.{startSays, stepSays}
-use Rattle.trie.specs.GivenKey.{keySays, keyOut}
-use Rattle.trie.specs.Incremental.{querySays, queryMoves, followSays, followMoves, gotoSays, gotoMoves}
-use Rattle.trie.specs.Places.{resumeSays, valueSays, prefixLenSays, prefixSays, prefixOut}
+use Rattle.listings.specs.declared.answers.Kind.{Kind}
+use Rattle.listings.specs.declared.answers.Cursor.{Cursor}
+use Rattle.searches.specs.Exact.{exactSays, setValues, isPrefixSays}
+use Rattle.searches.specs.Prefix.{longestSays, longestOut}
+use Rattle.searches.specs.CommonPrefixes.{commonSays, commonPart}
+use Rattle.listings.specs.Cursors.{startSays, stepSays}
+use Rattle.listings.specs.GivenKey.{keySays, keyOut}
+use Rattle.places.specs.Incremental.{querySays, queryMoves, followSays, followMoves, gotoSays, gotoMoves}
+use Rattle.places.specs.Places.{resumeSays, valueSays, prefixLenSays, prefixSays, prefixOut}
 
 -- the answer that is a refusal's number alone
 abbrev pub refuses : Refusal → List ℕ

@@ -30,18 +30,21 @@ use Rattle.records.specs.Words.{Pool, recordWords}
 use Rattle.pool.specs.History.{AllLent}
 use Rattle.image.specs.History.{Call, poolCalls}
 use Rattle.image.specs.Build.{buildSays}
-use Rattle.trie.specs.declared.Kind.{Kind}
-use Rattle.trie.specs.declared.Kind.the-variants.{Predictive, Postfix}
-use Rattle.trie.specs.declared.Cursor.{Cursor}
-use Rattle.trie.specs.declared.Cursor.the-variants.{Open, Finished}
-use Rattle.trie.specs.Answers.{saysValue, saysFlag, saidCursor}
-use Rattle.trie.specs.Exact.{exactSays, setValues, isPrefixSays}
-use Rattle.trie.specs.Prefix.{saysWritten, writtenTo, saysLongest, writtenLongest, longestSays, longestOut}
-use Rattle.trie.specs.CommonPrefixes.{saysCommon, commonSays, partOf, commonPart}
-use Rattle.trie.specs.Cursors.{given, setOf, belongs, onCursor, startSays, saysEnd, saysStep, stepIn, stepSays}
-use Rattle.trie.specs.GivenKey.{keyOf, saysKey, writtenKey, keySays, keyOut}
-use Rattle.trie.specs.Incremental.{queryIn, querySays, queryMoves, walkable, followIn, followSays, followMoves, commonBelow, gotoIn, gotoSays, gotoMoves}
-use Rattle.trie.specs.Places.{resumeSays, valueSays, prefixLenSays, prefixSays, prefixOut}
+use Rattle.listings.specs.declared.answers.Kind.{Kind}
+use Rattle.listings.specs.declared.answers.Kind.the-variants.{Predictive, Postfix}
+use Rattle.listings.specs.declared.answers.Cursor.{Cursor}
+use Rattle.listings.specs.declared.answers.Cursor.the-variants.{Open, Finished}
+use Rattle.keymap.specs.Answers.{saysValue, saysFlag}
+use Rattle.listings.specs.Answers.{saidCursor}
+use Rattle.searches.specs.Exact.{exactSays, setValues, isPrefixSays}
+use Rattle.keymap.specs.Answers.{saysWritten, writtenTo}
+use Rattle.searches.specs.Prefix.{saysLongest, writtenLongest, longestSays, longestOut}
+use Rattle.searches.specs.CommonPrefixes.{saysCommon, commonSays, partOf, commonPart}
+use Rattle.keymap.specs.Answers.{given}
+use Rattle.listings.specs.Cursors.{setOf, belongs, onCursor, startSays, saysEnd, saysStep, stepIn, stepSays}
+use Rattle.listings.specs.GivenKey.{keyOf, saysKey, writtenKey, keySays, keyOut}
+use Rattle.places.specs.Incremental.{queryIn, querySays, queryMoves, walkable, followIn, followSays, followMoves, commonBelow, gotoIn, gotoSays, gotoMoves}
+use Rattle.places.specs.Places.{resumeSays, valueSays, prefixLenSays, prefixSays, prefixOut}
 use Rattle.theorems.specs.Built.{poolAfter, mapAfter, builtImage}
 use Rattle.theorems.specs.Listing.{listingSays, listingIn}
 

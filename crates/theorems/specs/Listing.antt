@@ -13,11 +13,11 @@ use Rattle.keymap.specs.Key.{Key}
 use Rattle.keymap.specs.Map.{Entry, Map}
 use Rattle.keymap.specs.Image.{Image}
 use Rattle.keymap.specs.Paths.{nodeOf}
-use Rattle.trie.specs.declared.Kind.{Kind}
-use Rattle.trie.specs.declared.Kind.the-variants.{Predictive, Postfix}
-use Rattle.trie.specs.declared.Cursor.{Cursor}
-use Rattle.trie.specs.declared.Cursor.the-variants.{Open, Finished}
-use Rattle.trie.specs.Cursors.{setOf, startSays, saysEnd, saysStep, stepSays}
+use Rattle.listings.specs.declared.answers.Kind.{Kind}
+use Rattle.listings.specs.declared.answers.Kind.the-variants.{Predictive, Postfix}
+use Rattle.listings.specs.declared.answers.Cursor.{Cursor}
+use Rattle.listings.specs.declared.answers.Cursor.the-variants.{Open, Finished}
+use Rattle.listings.specs.Cursors.{setOf, startSays, saysEnd, saysStep, stepSays}
 
 abbrev pub heardKind : ℕ → Kind
 heardKind zero = Predictive

@@ -15,16 +15,16 @@ use Rattle.keymap.specs.Image.{Image}
 use Rattle.records.specs.Words.{Pool, recordWords, firstChild}
 use Rattle.pool.specs.History.{Call, pushesOf, runSays, runPool}
 use Rattle.image.specs.Build.{buildSays}
-use Rattle.trie.specs.declared.Kind.{Kind}
-use Rattle.trie.specs.declared.Kind.the-variants.{Predictive, Postfix}
-use Rattle.trie.specs.declared.Cursor.{Cursor}
-use Rattle.trie.specs.Exact.{isPrefixSays}
-use Rattle.trie.specs.CommonPrefixes.{commonSays, commonPart}
-use Rattle.trie.specs.Prefix.{longestSays, longestOut}
-use Rattle.trie.specs.Cursors.{startSays, stepSays}
-use Rattle.trie.specs.GivenKey.{keySays, keyOut}
-use Rattle.trie.specs.Places.{prefixSays, prefixOut}
-use Rattle.trie.specs.Incremental.{followSays, followMoves, gotoSays, gotoMoves}
+use Rattle.listings.specs.declared.answers.Kind.{Kind}
+use Rattle.listings.specs.declared.answers.Kind.the-variants.{Predictive, Postfix}
+use Rattle.listings.specs.declared.answers.Cursor.{Cursor}
+use Rattle.searches.specs.Exact.{isPrefixSays}
+use Rattle.searches.specs.CommonPrefixes.{commonSays, commonPart}
+use Rattle.searches.specs.Prefix.{longestSays, longestOut}
+use Rattle.listings.specs.Cursors.{startSays, stepSays}
+use Rattle.listings.specs.GivenKey.{keySays, keyOut}
+use Rattle.places.specs.Places.{prefixSays, prefixOut}
+use Rattle.places.specs.Incremental.{followSays, followMoves, gotoSays, gotoMoves}
 use Rattle.theorems.specs.Built.{builtImage}
 use Rattle.theorems.specs.Listing.{firstCursor, nextCursor}
 

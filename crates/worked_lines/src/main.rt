@@ -2,8 +2,8 @@
 // tools/oracle/README.md has the letters. The memory that the calls are lent is main's own.
 mod cursors;
 mod held;
-mod places;
-mod searches;
+mod incremental;
+mod queries;
 mod spelling;
 
 use held::Held;
@@ -37,9 +37,9 @@ fn read(
     let letter = letter(line);
     let n = number(line);
     images::look(letter, labels, values, words);
-    searches::answer(letter, n, query, labels, values, words);
+    queries::answer(letter, n, query, labels, values, words);
     spelling::answer(letter, n, query, labels, values, words, held);
-    let moved = places::answer(letter, n, query, labels, values, words, held);
+    let moved = incremental::answer(letter, n, query, labels, values, words, held);
     cursors::answer(letter, n, line, query, labels, values, words, moved)
 }
 
@@ -50,7 +50,7 @@ fn set(line: &[u8], labels: &[u16], values: &mut [u32], words: &[u64], lent: Len
     let a = of_labels(labels, lent.labels);
     let b = of_values(values, lent.values);
     let c = of_words(words, lent.words);
-    searches::set_value(
+    queries::set_value(
         number(line),
         &space[..k],
         &labels[..a],

@@ -33,18 +33,18 @@ use Rattle.image.proofs.Laws.Meaning.{mapImage-tested}
 use Rattle.lines.specs.Bytes.{tab, lineFeed}
 use Rattle.lines.specs.Decimal.{decimal}
 use Rattle.lines.specs.Writing.{tabLine, tabText, mapText}
-use Rattle.trie.specs.declared.Kind.{Kind}
-use Rattle.trie.specs.declared.Kind.the-variants as kinds
-use Rattle.trie.specs.declared.Cursor.{Cursor}
-use Rattle.trie.specs.declared.Cursor.the-variants.{Open, Finished}
-use Rattle.trie.specs.declared.Started.the-variants.{At, NotAnImage}
-use Rattle.trie.specs.declared.Stepped.{Stepped}
-use Rattle.trie.specs.declared.Stepped.the-variants as stepped
-use Rattle.trie.specs.Answers.{saidCursor, saidStarted, saidStepped}
-use Rattle.trie.specs.Cursors.{setOf, belongs, startSays, nextIn, saysStep, stepIn, stepSays}
-use Rattle.trie.specs.GivenKey.{keyOf, keySays, keyOut}
-use Rattle.trie.proofs.Laws.Answers.{saidCursor-one, saidStepped-one}
-use Rattle.trie.proofs.Laws.Cursors.{belongs-fresh, startSays-accepted}
+use Rattle.listings.specs.declared.answers.Kind.{Kind}
+use Rattle.listings.specs.declared.answers.Kind.the-variants as kinds
+use Rattle.listings.specs.declared.answers.Cursor.{Cursor}
+use Rattle.listings.specs.declared.answers.Cursor.the-variants.{Open, Finished}
+use Rattle.listings.specs.declared.answers.Started.the-variants.{At, NotAnImage}
+use Rattle.listings.specs.declared.answers.Stepped.{Stepped}
+use Rattle.listings.specs.declared.answers.Stepped.the-variants as stepped
+use Rattle.listings.specs.Answers.{saidCursor, saidStarted, saidStepped}
+use Rattle.listings.specs.Cursors.{setOf, belongs, startSays, nextIn, saysStep, stepIn, stepSays}
+use Rattle.listings.specs.GivenKey.{keyOf, keySays, keyOut}
+use Rattle.listings.proofs.Laws.Answers.{saidCursor-one, saidStepped-one}
+use Rattle.listings.proofs.Laws.Cursors.{belongs-fresh, startSays-accepted}
 use Rattle.catalogue.proofs.Laws.Putting.{Put, put-start, put-behind}
 use Rattle.catalogue.proofs.Laws.Next.{nextEntry, nextCursor, kindOf, restOf, next-head, next-belongs, next-key, rest-step}
 

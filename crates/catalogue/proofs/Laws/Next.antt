@@ -22,14 +22,14 @@ use Rattle.keymap.proofs.Laws.Members.{head-in}
 use Rattle.keymap.proofs.Laws.Map.{before-weak, before-all}
 use Rattle.keymap.proofs.Laws.Queries.{keep-iff, keep-all, above-iff}
 use Rattle.keymap.proofs.Laws.Paths.{pathOf-nodeOf, nodeOf-pathOf}
-use Rattle.trie.specs.declared.Kind.{Kind}
-use Rattle.trie.specs.declared.Kind.the-variants as kinds
-use Rattle.trie.specs.declared.Cursor.{Cursor}
-use Rattle.trie.specs.declared.Cursor.the-variants.{Open, Finished}
-use Rattle.trie.specs.Cursors.{setOf, belongs, nextIn}
-use Rattle.trie.specs.GivenKey.{givenKey, keyOf}
-use Rattle.trie.proofs.Laws.Cursors.{entry-path, setOf-rising, setOf-in, belongs-at, belongs-top}
-use Rattle.trie.proofs.Laws.GivenKey.{givenKey-predictive}
+use Rattle.listings.specs.declared.answers.Kind.{Kind}
+use Rattle.listings.specs.declared.answers.Kind.the-variants as kinds
+use Rattle.listings.specs.declared.answers.Cursor.{Cursor}
+use Rattle.listings.specs.declared.answers.Cursor.the-variants.{Open, Finished}
+use Rattle.listings.specs.Cursors.{setOf, belongs, nextIn}
+use Rattle.listings.specs.GivenKey.{givenKey, keyOf}
+use Rattle.listings.proofs.Laws.Cursors.{entry-path, setOf-rising, setOf-in, belongs-at, belongs-top}
+use Rattle.listings.proofs.Laws.GivenKey.{givenKey-predictive}
 
 -- the entry that a cursor gives next
 abbrev pub nextEntry : Map → Cursor → Option Entry

@@ -1,7 +1,6 @@
 -- Navigation on the image of a map, by paths. The degrees that its bits spell are those of its nodes in level order, so the children of a node
 -- are the paths one byte longer, in order; and the parent of a node is the path without its last byte, since no path is the child of two.
 --
---     zero-node         node k's zero is there, and so is the one behind the last node's children
 --     children-node     how many children node k has, and their paths by number
 --     child-label       where among them the child with a label stands
 --     parent-node       the number of a node's parent
@@ -9,7 +8,6 @@
 use mathlib.Core.Path.{_≡_, refl, sym, ap, ap₂, _∙_}
 use Prim.Native.Nat.{ℕ, zero, suc, _+_, _<_, _≤_}
 use native.Mathlib.Omega.{arith}
-use native.Mathlib.Numerals.{add-one}
 use mathlib.Core.List.{List, [], _∷_, _++_, map}
 use lib.ListN.{length, getD, take, length-map}
 use Rattle.keymap.specs.Key.{Key}
@@ -22,17 +20,16 @@ use Rattle.keymap.specs.Degrees.{total}
 use Rattle.keymap.specs.Image.{bitsFor, childrenIn, degree, imageBits}
 use Rattle.keymap.specs.Paths.{nodes, IsNode, pathOf, indexOf, nodeOf}
 use Rattle.keymap.proofs.Laws.Sums.{sumBelow-ext}
-use Rattle.keymap.proofs.Laws.Bits.{bit-small, bit-pack}
-use Rattle.keymap.proofs.Laws.Degrees.{total-take, sequence-small}
+use Rattle.keymap.proofs.Laws.Bits.{bit-small}
+use Rattle.keymap.proofs.Laws.Degrees.{total-take}
 use Rattle.keymap.proofs.Laws.Image.{length-imageBits}
 use Rattle.keymap.proofs.Laws.Paths.{degreeAt, getD-map, indexOf-in, pathOf-child, children-room, childrenIn-iff, nodeOf-node, pathOf-nodeOf, nodeOf-pathOf}
 use Rattle.louds.specs.declared.Spot.the-variants.{At}
 use Rattle.louds.specs.declared.Kids.the-variants.{Run}
 use Rattle.louds.specs.declared.Up.the-variants.{Node}
-use Rattle.louds.specs.Select.{zeroAt}
 use Rattle.louds.specs.Nodes.{childrenOf, parentOf}
-use Rattle.louds.proofs.Laws.Nodes.{zeroAt-agree, parent-of-child}
-use Rattle.louds.proofs.Laws.Degrees.{zeroAt-sequence, children-pack}
+use Rattle.louds.proofs.Laws.Nodes.{parent-of-child}
+use Rattle.louds.proofs.Laws.Degrees.{children-pack}
 
 -- the bits of a map's image, and how many there are
 abbrev pub mapBits : Map → ℕ → ℕ
@@ -53,20 +50,6 @@ module _ (m : Map) (c : Catalogue m) where
       ap (λ (n : ℕ). childrenOf (mapBits m) n (i + 1)) (sym (length-imageBits m c))
       ∙ children-pack ds i l
       ∙ ap₂ Run (ap (λ (n : ℕ). n + 2) before) (getD-map (degree m) ([] ∷ prefixes m) i h)
-
-  pub zero-node : (k : ℕ) → 1 ≤ k → k ≤ length (nodes m) + 1 → (p : ℕ) × (zeroAt (mapBits m) (mapLength m) k ≡ At p)
-  unfolding imageBits nodes
-  zero-node zero l h = absurd (omega arith)
-  zero-node (suc j) l h =
-      let ds : List ℕ = map (degree m) ([] ∷ prefixes m) in
-      let xs : List ℕ = imageBits m in
-      let within : j ≤ length ds = omega (arith, length-map ([] ∷ prefixes m) (degree m)) in (
-        total (take j ds) + j + 1,
-        ap (λ (n : ℕ). zeroAt (mapBits m) n (suc j)) (sym (length-imageBits m c))
-            ∙ zeroAt-agree (mapBits m) (λ i. getD xs i 0) (length xs) (λ i b. bit-pack xs (sequence-small ds) i) (suc j)
-            ∙ ap (zeroAt (λ i. getD xs i 0) (length xs)) (sym (add-one j))
-            ∙ zeroAt-sequence ds j within,
-      )
 
   -- the children of node k: the first number, and the paths from there on
   pub record ChildrenOf (k : ℕ) : Type 0 where

@@ -6,24 +6,24 @@ use mathlib.Core.List.{[], _∷_, List}
 use denote.Struct.Laws as LL
 use denote.Enum.Laws as EL
 use Rattle.image.specs.Meaning.{lent}
-use Rattle.trie.specs.Incremental.{placeAt, GotoPromise}
-use Rattle.trie.specs.declared.place.Place.{Place}
-use Rattle.trie.specs.declared.place.GotoMove.{GotoMove}
-use Rattle.trie.specs.declared.place.Gone.{Gone}
-use Rattle.trie.proofs.place.Held.{URA, named, w32, Val, vint, vptr, SProp, ent, emp, via, fst∗, id⊢, Lft, Share, GName, ftrue, fat, flft, fullShare, Memory, Routine, Heap, Calls, Loops, WpFn, Tables, Atoms, Fun, fact, givenOf, tables, tablesOf}
-use Rattle.trie.proofs.place.Held.{Given, ‵, raw, some, later, _⊛_, ⋆, _$_, _∵_, !, qed, by, move, keep, drop, use1, split, join, rewrite, fsplit, fjoin, group, suffices, frame, done, look, init, forget, stop, fld, from, load, of-opd, and-then, no-more, assigns, land, returns, enter, alloc1, alloc0, params1, pass1, pass0, free1, free0, whole, sub, look-in}
-use Rattle.trie.proofs.place.Held.{FmC, fmOf, WpFn-mono, owns, Is, uint-makes, uint-vals, uint-tells, u16, u32, u64, RefT, MutRef, ShrSlice, slice-vals, shr-slice-tells, shr-slice-lawful, plain, only, owned, nothing, onEntry, Meets, tripleOf, Contract, Triple, calls-at, lasts, entered, cited, says, Stays, stay-none, stay-none-slice, walkOf, goes-none, goes-none-slice, Walks, ends-at, walked, walk-meets, yes}
-use Rattle.trie.proofs.place.Held.{value, Labels, Values, Words, copies}
+use Rattle.places.specs.Incremental.{placeAt, GotoPromise}
+use Rattle.places.specs.declared.answers.Place.{Place}
+use Rattle.places.specs.declared.answers.GotoMove.{GotoMove}
+use Rattle.places.specs.declared.answers.Gone.{Gone}
+use Rattle.places.proofs.Held.{URA, named, w32, Val, vint, vptr, SProp, ent, emp, via, fst∗, id⊢, Lft, Share, GName, ftrue, fat, flft, fullShare, Memory, Routine, Heap, Calls, Loops, WpFn, Tables, Atoms, Fun, fact, givenOf, tables, tablesOf}
+use Rattle.places.proofs.Held.{Given, ‵, raw, some, later, _⊛_, ⋆, _$_, _∵_, !, qed, by, move, keep, drop, use1, split, join, rewrite, fsplit, fjoin, group, suffices, frame, done, look, init, forget, stop, fld, from, load, of-opd, and-then, no-more, assigns, land, returns, enter, alloc1, alloc0, params1, pass1, pass0, free1, free0, whole, sub, look-in}
+use Rattle.places.proofs.Held.{FmC, fmOf, WpFn-mono, owns, Is, uint-makes, uint-vals, uint-tells, u16, u32, u64, RefT, MutRef, ShrSlice, slice-vals, shr-slice-tells, shr-slice-lawful, plain, only, owned, nothing, onEntry, Meets, tripleOf, Contract, Triple, calls-at, lasts, entered, cited, says, Stays, stay-none, stay-none-slice, walkOf, goes-none, goes-none-slice, Walks, ends-at, walked, walk-meets, yes}
+use Rattle.places.proofs.Held.{value, Labels, Values, Words, copies}
 use Rattle.place_cases.proofs.Lent.{agg, addr, lentPlace, lends-place, place-back, hears-last}
-use Rattle.trie.proofs.place.Place as T
-use Rattle.trie.proofs.place.GotoMove as O
-use Rattle.trie.proofs.place.GotoMove.Laws as O′
-use Rattle.trie.proofs.place.Gone as S
-use Rattle.trie.proofs.place.Gone.Laws as S′
-use Rattle.trie.proofs.place.goto_longest_prefix as callee
-use Rattle.trie.proofs.place.goto_longest_prefix.Symbol as callee-def
-use Rattle.trie.proofs.place.goto_longest_prefix.Symbol.{name as #trie·place·goto-longest-prefix}
-use Rattle.trie.proofs.place.goto_longest_prefix.Met as callee-thm
+use Rattle.places.proofs.answers.Place as T
+use Rattle.places.proofs.answers.GotoMove as O
+use Rattle.places.proofs.answers.GotoMove.Laws as O′
+use Rattle.places.proofs.answers.Gone as S
+use Rattle.places.proofs.answers.Gone.Laws as S′
+use Rattle.places.proofs.calls.goto_longest_prefix as callee
+use Rattle.places.proofs.calls.goto_longest_prefix.Symbol as callee-def
+use Rattle.places.proofs.calls.goto_longest_prefix.Symbol.{name as #places·calls·goto-longest-prefix}
+use Rattle.places.proofs.calls.goto_longest_prefix.Met as callee-thm
 use Rattle.place_cases.proofs.goto_from.Key.{name as #place-cases·goto-from}
 use Rattle.place_cases.proofs.goto_from as caller
 use Rattle.place_cases.proofs.goto_from.Statement as stated
@@ -70,7 +70,7 @@ module _ {M : Type 1} (𝓤 : URA M) (H : Heap 𝓤) (A : Atoms 𝓤) (W : Given
       suffices ! _ (ends-at 𝓤 H A caller.ended stayed (caller.clauses 𝓤 H A at-mem run) W (((κ0, (κ1, (κ2, tt))), (q0, (q1, (q2, tt))), tt, x, vals), tt) u d (tt, (tt, (tt, (tt, tt)))) (tt, (tt, (tt, (tt, tt))))) $ says ! e $
       nothing ! $ move ! (6 ∷ 0 ∷ []) $ join ! $ move ! (5 ∷ 0 ∷ []) $ join ! $ move ! (4 ∷ 0 ∷ []) $ join ! $ frame ! $ nothing ! $ owned ! u32 (Is u32) (uint-makes 𝓤 H A W w32) node _ (refl, node-fits) $ fjoin ! $ move ! (3 ∷ 0 ∷ []) $ fjoin ! $ move ! (2 ∷ 0 ∷ []) $ fjoin ! $ move ! (1 ∷ 0 ∷ []) $ fjoin ! $ owned ! O.the-row (Is O.the-row) (LL.makes O.the-type O′.the-plain 𝓤 H A) d _ is $ move ! (1 ∷ 0 ∷ []) $ done !
 
-  module _ (C : Calls 𝓤 H) (Λ : Loops 𝓤 H) (fm : FmC 𝓤 H (W .laws) C) (known : Triple 𝓤 (C #trie·place·goto-longest-prefix) (Callee 𝓤 H A at-mem run)) where
+  module _ (C : Calls 𝓤 H) (Λ : Loops 𝓤 H) (fm : FmC 𝓤 H (W .laws) C) (known : Triple 𝓤 (C #places·calls·goto-longest-prefix) (Callee 𝓤 H A at-mem run)) where
     walk : Is (ShrSlice (named 0) κ0 u16) labels (value labels ∷ []) → Is (ShrSlice (named 1) κ1 u32) values (value values ∷ []) → Is (ShrSlice (named 2) κ2 u64) words (value words ∷ []) → ent 𝓤 (onEntry 𝓤 H A caller.signature (κ0, (κ1, (κ2, tt))) (q0, (q1, (q2, tt))) x vals) (WpFn 𝓤 H C Λ code.function (value labels ∷ value values ∷ value words ∷ vint w32 node ∷ []) Post)
     walk is0 is1 is2 =
         qed W ((‵ (flft κ0 q0) ⊛ ‵ (flft κ1 q1) ⊛ ‵ (flft κ2 q2) ⊛ ‵ ftrue) ∷ ‵ (owns (ShrSlice (named 0) κ0 u16 ∷ ShrSlice (named 1) κ1 u32 ∷ ShrSlice (named 2) κ2 u64 ∷ u32 ∷ []) x vals) ∷ []) ∵ enter ! C Λ code.function (value labels ∷ value values ∷ value words ∷ vint w32 node ∷ []) _ $
@@ -98,12 +98,12 @@ module _ {M : Type 1} (𝓤 : URA M) (H : Heap 𝓤) (A : Atoms 𝓤) (W : Given
         keep ! (6 ∷ 5 ∷ 4 ∷ 2 ∷ 1 ∷ 0 ∷ []) $ by ! (exits (made r (zs .1 .1 .1 .0)) _ e (owes r u (zs .1 .1 .1 .0) is fits)))))))))))))))
 
 module _ {M : Type 1} (𝓤 : URA M) (H : Heap 𝓤) (A : Atoms 𝓤) (W : Given 𝓤 H A) (mem : Memory → SProp 𝓤) (run : Routine → Fun 𝓤) where
-  walks : (C : Calls 𝓤 H) (Λ : Loops 𝓤 H) → FmC 𝓤 H (W .laws) C → Triple 𝓤 (C #trie·place·goto-longest-prefix) (Callee 𝓤 H A mem run) → Walks 𝓤 H A caller.ended stayed (WpFn 𝓤 H C Λ code.function) (caller.clauses 𝓤 H A mem run)
+  walks : (C : Calls 𝓤 H) (Λ : Loops 𝓤 H) → FmC 𝓤 H (W .laws) C → Triple 𝓤 (C #places·calls·goto-longest-prefix) (Callee 𝓤 H A mem run) → Walks 𝓤 H A caller.ended stayed (WpFn 𝓤 H C Λ code.function) (caller.clauses 𝓤 H A mem run)
   walks C Λ fm known = walked 𝓤 H A caller.ended stayed (caller.clauses 𝓤 H A mem run) (WpFn 𝓤 H C Λ code.function) (λ κs. (slice-vals, (slice-vals, (slice-vals, (uint-vals w32, tt)))))
       (λ κs. (shr-slice-tells (named 0) (κs .0) u16, (shr-slice-tells (named 1) (κs .1 .0) u32, (shr-slice-tells (named 2) (κs .1 .1 .0) u64, (uint-tells w32, tt)))))
       (λ κs qs bounds a g are. via 𝓤 _ (fst∗ 𝓤 _ (emp 𝓤)) (walk 𝓤 H A W mem run (κs .0) (κs .1 .0) (κs .1 .1 .0) (qs .0) (qs .1 .0) (qs .1 .1 .0) (a .0) (a .1 .0) (a .1 .1 .0) (a .1 .1 .1 .0) (are .1 .1 .1 .0 .1) C Λ fm known (are .0) (are .1 .0) (are .1 .1 .0)))
 
-meets : {M : Type 1} (𝓤 : URA M) (H : Heap 𝓤) (A : Atoms 𝓤) → Given 𝓤 H A → (mem : Memory → SProp 𝓤) (run : Routine → Fun 𝓤) (𝓣 : Tables 𝓤 H) → Triple 𝓤 (𝓣 .C #trie·place·goto-longest-prefix) (Callee 𝓤 H A mem run)
+meets : {M : Type 1} (𝓤 : URA M) (H : Heap 𝓤) (A : Atoms 𝓤) → Given 𝓤 H A → (mem : Memory → SProp 𝓤) (run : Routine → Fun 𝓤) (𝓣 : Tables 𝓤 H) → Triple 𝓤 (𝓣 .C #places·calls·goto-longest-prefix) (Callee 𝓤 H A mem run)
     → Meets 𝓤 H A caller.signature (WpFn 𝓤 H (𝓣 .C) (𝓣 .Λ) code.function) (caller.spec 𝓤 H A mem run)
 meets 𝓤 H A W mem run 𝓣 known =
     walk-meets 𝓤 H A caller.ended stayed W (goes-none-slice 𝓤 H A W 3 (0 ∷ []) tt (plain (λ _. u16)) yes, (goes-none-slice 𝓤 H A W 3 (1 ∷ []) tt (plain (λ _. u32)) yes, (goes-none-slice 𝓤 H A W 3 (2 ∷ []) tt (plain (λ _. u64)) yes, (goes-none 𝓤 H A W 3 (λ _. u32) yes (λ κs x f. refl), tt))))
@@ -115,4 +115,4 @@ goto-from-spec 𝓤 H 𝓜 𝓖 𝓡 =
     entered 𝓤 H (tripleOf 𝓤 H (𝓖 .A) caller.signature (caller.spec 𝓤 H (𝓖 .A) (𝓜 .mem) (𝓡 .run)))
     (tables 𝓤 H 𝓜 𝓡 code.env .C) (tables 𝓤 H 𝓜 𝓡 code.env .Λ) #place-cases·goto-from code.function (code.unfolded 𝓤 H 𝓜 𝓡)
     (meets 𝓤 H (𝓖 .A) (givenOf 𝓤 H 𝓜 𝓖) (𝓜 .mem) (𝓡 .run) (tablesOf 𝓤 H 𝓜 (tables 𝓤 H 𝓜 𝓡 code.env))
-    (cited 𝓤 H (Callee 𝓤 H (𝓖 .A) (𝓜 .mem) (𝓡 .run)) 𝓜 𝓡 code.env #trie·place·goto-longest-prefix callee-def.routine code.calls-trie·place·goto-longest-prefix (callee-thm.met 𝓤 H 𝓜 𝓖 𝓡)))
+    (cited 𝓤 H (Callee 𝓤 H (𝓖 .A) (𝓜 .mem) (𝓡 .run)) 𝓜 𝓡 code.env #places·calls·goto-longest-prefix callee-def.routine code.calls-places·calls·goto-longest-prefix (callee-thm.met 𝓤 H 𝓜 𝓖 𝓡)))

@@ -20,15 +20,15 @@ use Rattle.lines.specs.Bytes.{holds, stretch}
 use Rattle.lines.specs.Decimal.{areDigits, valueAfter, leadingZero, isDecimal, numberIn, decimal, decimalFrom}
 use Rattle.lines.specs.TabLine.{keyPart, numberPart, tabEntry, tabLineSays, tabLineKey}
 use Rattle.lines.specs.Writing.{tabLine, tabText, writeLineSays, writeLineOut}
-use Rattle.trie.specs.declared.Kind.{Kind}
-use Rattle.trie.specs.declared.Cursor.{Cursor}
-use Rattle.trie.specs.Exact.{exactSays, setValues, isPrefixSays}
-use Rattle.trie.specs.Prefix.{longestSays, longestOut}
-use Rattle.trie.specs.CommonPrefixes.{commonSays, commonPart}
-use Rattle.trie.specs.Cursors.{startSays, stepSays}
-use Rattle.trie.specs.GivenKey.{keySays, keyOut}
-use Rattle.trie.specs.Incremental.{querySays, queryMoves, followSays, followMoves, gotoSays, gotoMoves}
-use Rattle.trie.specs.Places.{resumeSays, valueSays, prefixLenSays, prefixSays, prefixOut}
+use Rattle.listings.specs.declared.answers.Kind.{Kind}
+use Rattle.listings.specs.declared.answers.Cursor.{Cursor}
+use Rattle.searches.specs.Exact.{exactSays, setValues, isPrefixSays}
+use Rattle.searches.specs.Prefix.{longestSays, longestOut}
+use Rattle.searches.specs.CommonPrefixes.{commonSays, commonPart}
+use Rattle.listings.specs.Cursors.{startSays, stepSays}
+use Rattle.listings.specs.GivenKey.{keySays, keyOut}
+use Rattle.places.specs.Incremental.{querySays, queryMoves, followSays, followMoves, gotoSays, gotoMoves}
+use Rattle.places.specs.Places.{resumeSays, valueSays, prefixLenSays, prefixSays, prefixOut}
 use Rattle.theorems.specs.Demand1.{Damaged, TooSmall, Unsound, SoundPool}
 use Rattle.theorems.proofs.Demand1.{every-damaged, every-pool, refusal-keeps}
 use Rattle.theorems.proofs.Uses.Values.{a, ab, abc, b, c, imageA, damaged, damaged-lent, wordsA, wordsA-sound, four, two}

@@ -19,15 +19,15 @@ use Rattle.keymap.specs.Image.{Image, imageBits, image}
 use Rattle.keymap.specs.Paths.{nodes, isNode, pathOf, indexOf, nodeOf}
 use Rattle.pool.specs.History.{mapRun}
 use Rattle.image.specs.History.{poolCalls}
-use Rattle.trie.specs.declared.Kind.the-variants.{Predictive, Postfix}
-use Rattle.trie.specs.declared.Cursor.the-variants.{Open, Finished}
-use Rattle.trie.specs.Exact.{exactSays, isPrefixSays}
-use Rattle.trie.specs.Prefix.{longestSays, longestOut}
-use Rattle.trie.specs.CommonPrefixes.{commonSays, commonPart}
-use Rattle.trie.specs.Cursors.{belongs, startSays, stepSays}
-use Rattle.trie.specs.GivenKey.{keySays, keyOut}
-use Rattle.trie.specs.Incremental.{pathSays, querySays, queryMoves, walkable, followSays, followMoves, gotoSays, gotoMoves}
-use Rattle.trie.specs.Places.{resumeSays, valueSays, prefixLenSays, prefixSays, prefixOut}
+use Rattle.listings.specs.declared.answers.Kind.the-variants.{Predictive, Postfix}
+use Rattle.listings.specs.declared.answers.Cursor.the-variants.{Open, Finished}
+use Rattle.searches.specs.Exact.{exactSays, isPrefixSays}
+use Rattle.searches.specs.Prefix.{longestSays, longestOut}
+use Rattle.searches.specs.CommonPrefixes.{commonSays, commonPart}
+use Rattle.listings.specs.Cursors.{belongs, startSays, stepSays}
+use Rattle.listings.specs.GivenKey.{keySays, keyOut}
+use Rattle.places.specs.Incremental.{pathSays, querySays, queryMoves, walkable, followSays, followMoves, gotoSays, gotoMoves}
+use Rattle.places.specs.Places.{resumeSays, valueSays, prefixLenSays, prefixSays, prefixOut}
 use Rattle.theorems.specs.Built.{poolAfter, builtImage}
 use Rattle.theorems.specs.Listing.{listingSays, givenIn}
 use Rattle.theorems.specs.Demand2.{AtPath, NoPlace, Searches, setAll, setAllIn}

@@ -15,7 +15,7 @@ use Rattle.pool.specs.History.{runPool, mapRun, pushesOf}
 use Rattle.pool.specs.History as pools
 use Rattle.image.specs.History.{Call, poolCalls, runSays}
 use Rattle.image.specs.Build.{buildSays}
-use Rattle.trie.specs.Exact.{exactSays}
+use Rattle.searches.specs.Exact.{exactSays}
 use Rattle.theorems.specs.Built.{builtImage}
 use Rattle.theorems.specs.Demand2.{setAll, setAllIn}
 use Rattle.theorems.specs.NotReset.{NotReset, refilled}

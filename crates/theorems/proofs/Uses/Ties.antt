@@ -11,13 +11,13 @@ use Rattle.pool.specs.Push.{pushSays, pushPool}
 use Rattle.pool.proofs.push.Kinds as push-kinds
 use Rattle.pool.proofs.push.Reads as push-reads
 use Rattle.image.specs.Meaning.{lent}
-use Rattle.trie.specs.declared.place.Place.{Place}
-use Rattle.trie.specs.declared.place.Followed.{Followed}
-use Rattle.trie.specs.Answers.{saidLooked}
-use Rattle.trie.specs.Exact.{exactSays}
-use Rattle.trie.specs.Incremental.{placeAt, saidFollowed, FollowPromise}
-use Rattle.trie.proofs.exact_match.Kinds as exact-match-kinds
-use Rattle.trie.proofs.exact_match.Reads as exact-match-reads
+use Rattle.places.specs.declared.answers.Place.{Place}
+use Rattle.places.specs.declared.answers.Followed.{Followed}
+use Rattle.searches.specs.Answers.{saidLooked}
+use Rattle.searches.specs.Exact.{exactSays}
+use Rattle.places.specs.Incremental.{placeAt, saidFollowed, FollowPromise}
+use Rattle.searches.proofs.exact_match.Kinds as exact-match-kinds
+use Rattle.searches.proofs.exact_match.Reads as exact-match-reads
 use Rattle.theorems.proofs.Ties.{push-says, exact-match-says, query-until-says}
 use Rattle.theorems.proofs.Uses.Values.{ab, ax, c, imageA, wordsA}
 use Rattle.theorems.proofs.Uses.Demand1.{refused-push, push-keeps}

@@ -4,7 +4,7 @@ use mathlib.Core.Path.{_≡_, refl, ap}
 use mathlib.Core.List.{List, [], _∷_, _++_, map}
 use lib.ListN.{length, getD}
 use Rattle.keymap.specs.Map.{Entry}
-use Rattle.trie.specs.declared.Kind.the-variants.{Predictive, Postfix}
+use Rattle.listings.specs.declared.answers.Kind.the-variants.{Predictive, Postfix}
 use Rattle.theorems.specs.Worked.{Line, says, lines}
 use Rattle.theorems.specs.Worked.Asked.{pushes, rootChild, build, isPrefix, longest, listing, common, goto, until}
 use Rattle.theorems.proofs.Worked.{worked-lines}

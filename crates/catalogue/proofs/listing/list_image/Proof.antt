@@ -14,14 +14,15 @@ use Rattle.keymap.specs.Buffers.{over}
 use Rattle.lines.specs.Writing.{tabText}
 use Rattle.keymap.specs.Decode.{imageMap}
 use Rattle.image.specs.Meaning.{lent}
-use Rattle.trie.specs.declared.Stepped.{Stepped}
-use Rattle.trie.specs.declared.Stepped.the-variants as stepped
-use Rattle.trie.specs.declared.Spelled.{Spelled}
-use Rattle.trie.specs.declared.Spelled.the-variants as spelled
-use Rattle.trie.specs.Answers.{saidStarted, saidStepped, saidSpelled}
-use Rattle.trie.proofs.Stepped as of-stepped
-use Rattle.trie.proofs.Spelled as of-spelled
-use Rattle.trie.proofs.Laws.Answers.{saidSpelled-one}
+use Rattle.listings.specs.declared.answers.Stepped.{Stepped}
+use Rattle.listings.specs.declared.answers.Stepped.the-variants as stepped
+use Rattle.climbs.specs.declared.answers.Spelled.{Spelled}
+use Rattle.climbs.specs.declared.answers.Spelled.the-variants as spelled
+use Rattle.climbs.specs.Spelling.{saidSpelled}
+use Rattle.listings.specs.Answers.{saidStarted, saidStepped}
+use Rattle.listings.proofs.answers.Stepped as of-stepped
+use Rattle.climbs.proofs.answers.Spelled as of-spelled
+use Rattle.climbs.proofs.Laws.Spelling.{saidSpelled-one}
 use Rattle.catalogue.proofs.Laws.Next.{restOf}
 use Rattle.catalogue.proofs.Laws.Listing.{Listing, Turn, start-told, listing-starts, listing-within, listing-ends, listing-turn}
 use Rattle.catalogue.proofs.listing.list_image.Statement.{statement}

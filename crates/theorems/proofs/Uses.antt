@@ -6,6 +6,7 @@ pub mod Demand3
 pub mod Demand2
 pub mod Demand1
 pub mod NotReset
+pub mod Untested
 pub mod Lines
 pub mod Program
 pub mod Worked

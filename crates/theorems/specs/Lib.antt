@@ -5,6 +5,7 @@ pub mod Acceptance
 pub mod Listing
 pub mod Demand2
 pub mod NotReset
+pub mod Untested
 pub mod Lines
 pub mod Program
 pub mod Worked

@@ -190,6 +190,27 @@ def image_map(labels, values, words):
     return entries if image_of(entries) == (labels, values, words) else None
 
 
+# The lookup that does not test the image (02, R-7)
+
+def untested(labels, values, words, query):
+    """A value, "none" or "refused". The bits are cut at their zeros: run k stands behind the k-th zero, and its ones are numbered on from those before it."""
+    n = len(labels)
+    if n > MOST or len(values) != n or len(words) != (2 * n + 3 + 63) // 64:
+        return "refused"
+    runs = "".join(str(words[at // 64] >> at % 64 & 1) for at in range(2 * n + 3)).split("0")
+    node = 1
+    for label in query:
+        if node >= len(runs):
+            return "none"
+        before = sum(len(run) for run in runs[:node])
+        counted = [m for m in range(before + 1, before + len(runs[node]) + 1) if node < m <= n + 1]
+        fitting = [m for m in counted if labels[m - 2] < 512 and labels[m - 2] % 256 == label]
+        if not fitting:
+            return "none"
+        node = min(fitting)
+    return values[node - 2] if node > 1 and 256 <= labels[node - 2] < 512 else "none"
+
+
 # The list
 
 class Book:
@@ -339,6 +360,23 @@ class Book:
 
     def exact_long(self, length):
         self.asked("E", length, b"", lambda: [self.map.get(b"a" * length, "none")])
+
+    def untested_case(self, letter, number, data, query):
+        answer = untested(*self.slices(), query)
+        assert self.map is None or answer == self.map.get(query, "none"), query
+        self.case(letter, number, data, *(["refused", 6] if answer == "refused" else [answer]))
+
+    def untested(self, query):
+        self.untested_case("j", 0, query, query)
+
+    def untested_long(self, length):
+        self.untested_case("J", length, b"", b"a" * length)
+
+    def untested_table(self, bits):
+        """Every query of at most three letters a and b, with these bits in place of the image's."""
+        labels, values, _ = self.slices()
+        answers = [untested(labels, values, [bits], query) for query in SHORT]
+        self.case("T", bits, b"", "".join("." if answer == "none" else str(answer) for answer in answers))
 
     def is_prefix(self, query):
         self.asked("y", 0, query, lambda: ["yes" if self.longer(query) else "no"])
@@ -963,6 +1001,108 @@ def values_set(book):
         book.show()
 
 
+SHORT = [bytes(97 + (turn >> length - 1 - at & 1) for at in range(length)) for length in range(4) for turn in range(1 << length)]
+
+
+def rules_alone(book):
+    """The lookup without a test, on slices for each rule alone."""
+    book.title("map A of the document, by the lookup that does not test the image")
+    book.stand(*image_of({b"ab": 7, b"b": 3}))
+    for query in SHORT:
+        book.untested(query)
+    one = [353], [9]
+    two = [353, 353], [5, 6]
+    three = [97, 354, 354], [0, 3, 7]
+    for name, labels, values, words, queries in (
+            ("unused bits set", *three, [45 + (1 << 9) + (1 << 63)], (b"", b"ab", b"b", b"abb")),
+            ("the first bit 0: of node 1's children 1 and 2 the first is not above it", *one, [6], (b"a", b"aa")),
+            ("the first bit 0, and the only child is numbered 1", *one, [2], (b"a", b"aa")),
+            ("the second bit 1: node 1's zero is behind node 2's one", *two, [11], (b"a", b"aa", b"aaa")),
+            ("no zero at all, though the word has zeros behind the bits", [], [], [7], (b"", b"a")),
+            ("one zero, so that node 2's is missing", *one, [29], (b"a", b"aa")),
+            ("children above n+1, and a run that ends with the bits", [354], [9], [29], (b"a", b"b")),
+            ("only zeros", *two, [0], (b"a", b"")),
+            ("equal labels: the lowest number", *two, [13], (b"a", b"aa")),
+            ("the lowest number is taken though only the other goes on", [97, 97, 354], [0, 0, 8], [77], (b"a", b"ab")),
+            ("labels that fall", [354, 353], [5, 6], [13], (b"a", b"b")),
+            ("entries of 512 and more match no label", [609, 865, 353], [1, 2, 3], [29], (b"a", b"aa")),
+            ("an entry of 65535", [65535, 511], [1, 2], [13], (b"\xff", b"\xfe")),
+            ("an entry of 512 has no value", [512, 256], [1, 2], [13], (b"\x00", b"\x00\x00")),
+            ("an entry below 256 has no value, whatever stands there", [97, 354], [1, 2], [5], (b"a", b"ab")),
+            ("n = 0", [], [], [1], (b"", b"a")),
+            ("a value too few", *three[:1], [0, 3], [45], (b"", b"ab")),
+            ("a value too many", *three[:1], [0, 3, 7, 0], [45], (b"", b"ab")),
+            ("a word too few", *three, [], (b"", b"ab")),
+            ("a word too many", *three, [45, 0], (b"", b"ab"))):
+        book.title(name)
+        book.stand(labels, values, words)
+        for query in queries:
+            book.untested(query)
+
+
+def most_nodes(book):
+    """4,096 nodes in any bits, and one node more."""
+    book.title("4,096 nodes besides the root, looked up without a test: the deepest chain, then other bits with its entries")
+    n = MOST
+    book.reset(20485)
+    book.push_long(n)
+    book.build()
+    chain = book.slices()[2]
+    ones = (1 << 64) - 1
+    for words in ([], [chain[0] - 1] + chain[1:], [chain[0] + 2] + chain[1:], [ones] * 129, [0] * 129, [ones ^ word for word in chain], chain[:128] + [ones]):
+        if words:
+            book.end_with((n, []), (n, []), (129, words))
+        for length in (0, 1, 2, 63, 64, 65, 4095, 4096, 4097):
+            book.untested_long(length)
+    book.title("4,097 nodes besides the root")
+    book.end_with((n + 1, [353]), (n + 1, [1]), (129, chain))
+    for length in (0, 1, 4097):
+        book.untested_long(length)
+
+
+def all_bits(book):
+    """Every sequence of bits for 3 and for 4 nodes besides the root, and those that begin with 1, 0 once more with other entries; of some also with unused bits set."""
+    for labels, step in (([353, 353, 354], 1), ([97, 354, 353], 1), ([609, 98, 353], 1), ([353, 354, 97, 353], 1), ([98, 353, 865, 354], 4)):
+        n = len(labels)
+        book.title("all bits of %d nodes%s with the entries %s" % (n, " that begin with 1, 0" * (step > 1), labels))
+        book.end_with((n, labels), (n, list(range(2, n + 2))), (1, [1]))
+        for bits in range(1, 1 << 2 * n + 3, step) if step > 1 else range(1 << 2 * n + 3):
+            book.untested_table(bits + (0xFFF << 2 * n + 3) * (bits % 8 == 5))
+
+
+def lookups_damaged(book):
+    """Up to two entries or bits changed in an image of two words, and queries that go by them."""
+    book.title("images changed at random, looked up without a test")
+    entries = {bytes(draw.of(b"abc") for _ in range(1 + draw.below(5))): draw.below(9) for _ in range(40)}
+    image = image_of(entries)
+    labels, values, words = image
+    book.stand(*image)
+    for _ in range(60):
+        slices = [list(labels), list(values), list(words)]
+        for _ in range(draw.below(3)):
+            which = draw.below(3)
+            if which == 0:
+                slices[0][draw.below(len(labels))] = draw.of((97, 98, 99, 353, 354, 355, 511, 512, 609, 65535))
+            else:
+                at = draw.below(2 * len(labels) + 12)
+                slices[2][at // 64 % len(words)] ^= 1 << at % 64
+        # what is there already is not stored again
+        book.end_with(*((len(new), [] if new == there else new) for new, there in zip(slices, book.slices())))
+        for _ in range(12):
+            key = draw.of(sorted(entries))
+            book.untested(key[:draw.below(len(key) + 2)] + bytes(draw.of(b"abc") for _ in range(draw.below(2))))
+
+
+def lookups_accepted(book):
+    """On the images of maps it answers what `exact_match` answers."""
+    for entries in SMALL + (FRUIT, {bytes([label]): label for label in range(256)}):
+        book.title("the lookup without a test beside the exact match, on the image of %d keys" % len(entries))
+        book.stand(*image_of(dict(entries)))
+        for key in sorted({b"", b"a", b"ab", b"appl", b"zz"} | {key[:end] for key in entries for end in (1, 2, len(key))} | {key + b"x" for key in list(entries)[:9]}):
+            book.exact(key)
+            book.untested(key)
+
+
 def main():
     book = Book()
     book.title("Section 2: answered by the scope document alone")
@@ -974,6 +1114,11 @@ def main():
     places_elsewhere(book)
     seen_lengths(book)
     values_set(book)
+    rules_alone(book)
+    most_nodes(book)
+    all_bits(book)
+    lookups_damaged(book)
+    lookups_accepted(book)
     for name, lines in zip(sys.argv[1:], (book.cases, book.answers)):
         with open(name, "w") as file:
             file.write("".join(line + "\n" for line in lines))

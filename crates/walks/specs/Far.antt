@@ -5,12 +5,12 @@
 --     PassedFrom    words are passed, with as many zeros as are no longer left
 --     Ready         a word that has the k-th zero from a word on, with its sums
 --     ZeroWord      the first word from one on that has a zero
---     wentOn        where a walk ends that went so far
+--     standNear     the stand at a node, looked for from the start of a word on
+--     wentOn        where a walk ends that went so far, and `endedAt`: where it is when it ended
 -- Assumes nothing.
 use mathlib.Core.Path.{_≡_}
 use Prim.Native.Nat.{ℕ, _+_, _-_, _*_, _%_, _^_, _≤_, _<_}
 use mathlib.Core.List.{List}
-use mathlib.Core.Option.{Option, none, some}
 use lib.ListN.{length, getD, drop}
 use lib.Count.{ones}
 use Rattle.keymap.specs.Key.{Key}
@@ -18,11 +18,18 @@ use Rattle.keymap.specs.Limits.{wordBits}
 use Rattle.keymap.specs.Bits.{bit, sumBelow}
 use Rattle.louds.specs.Digits.{complement}
 use Rattle.louds.specs.Rank.{zerosBefore}
+use Rattle.louds.specs.Select.{zeroFrom}
+use Rattle.louds.specs.Nodes.{orEnd}
 use Rattle.walks.specs.declared.far.Passed.{Passed}
 use Rattle.walks.specs.declared.far.Kept.{Kept}
 use Rattle.walks.specs.declared.far.Went.{Went}
-use Rattle.walks.specs.declared.far.Went.the-variants.{To, Lost}
-use Rattle.walks.specs.Rule.{walkedFrom}
+use Rattle.walks.specs.declared.far.Went.the-variants.{Gone, Lost}
+use Rattle.walks.specs.declared.stands.Stand.{Stand}
+use Rattle.walks.specs.declared.moves.Reached.{Reached}
+use Rattle.walks.specs.declared.moves.Reached.the-variants.{To, NoPath}
+use Rattle.walks.specs.declared.moves.Ended.{Ended}
+use Rattle.walks.specs.declared.moves.Ended.the-variants.{Near, At, Nowhere}
+use Rattle.walks.specs.Stands.{downAlong}
 
 abbrev pub zerosUpTo : List ℕ → ℕ → ℕ
 zerosUpTo ws w = zerosBefore (bit ws) (w * wordBits)
@@ -59,6 +66,15 @@ pub record HasZero (ws : List ℕ) (first w : ℕ) : Type 0 where
 abbrev pub ZeroWord : List ℕ → ℕ → ℕ → ℕ → Type 0
 ZeroWord ws whole first w = w < whole → HasZero ws first w
 
-abbrev pub wentOn : List ℕ → (ℕ → ℕ) → ℕ → Key → Went → Option ℕ
-wentOn ls b len q Lost = none
-wentOn ls b len q (To node steps) = walkedFrom ls b len (drop steps q) (some node)
+-- from the start of the last of the first `kept` words on it is `left` zeros to the node's
+abbrev pub standNear : (ℕ → ℕ) → ℕ → ℕ → ℕ → ℕ → Stand
+standNear b len node kept left = record { node = node; zero = orEnd len (zeroFrom b len ((kept - 1) * wordBits) left) }
+
+abbrev pub wentOn : List ℕ → (ℕ → ℕ) → ℕ → Key → Went → Reached
+wentOn ls b len q Lost = NoPath
+wentOn ls b len q (Gone node steps kept left) = downAlong ls b len (drop steps q) (To (standNear b len node kept left))
+
+abbrev pub endedAt : (ℕ → ℕ) → ℕ → Ended → Reached
+endedAt b len (Near node kept left) = To (standNear b len node kept left)
+endedAt b len (At s) = To s
+endedAt b len Nowhere = NoPath

@@ -5,14 +5,15 @@
 --     isStand       a place inside the bits that can be a node's zero
 --     kidsFrom      the children of a stand: the first, how many, and the zero behind them
 --     kidFrom       the stand at a child
---     downFrom      one step down
+--     downFrom      one step down, and `downAlong`: all steps of a query
 --     reachedAt     the stand at the node where a walk ended
 -- Assumes nothing.
 use Prim.Native.Nat.{ℕ, _+_, _-_}
 use mathlib.Core.Bool.{Bool, cond, _&&_}
-use mathlib.Core.List.{List}
+use mathlib.Core.List.{List, [], _∷_}
 use mathlib.Core.Option.{Option, none, some}
 use lib.Dec.{ltb, leb}
+use Rattle.keymap.specs.Key.{Key}
 use Rattle.louds.specs.Select.{zeroAt, zeroFrom}
 use Rattle.louds.specs.Nodes.{orEnd}
 use Rattle.walks.specs.declared.stands.Stand.{Stand}
@@ -60,6 +61,15 @@ toKid b len k next (some m) = To (kidFrom b len k next m)
 unfoldable pub downFrom : List ℕ → (ℕ → ℕ) → ℕ → Stand → ℕ → Reached
 downFrom ls b len s a =
     toKid b len (s .node) (kidsFrom b len s .next) (lowestBy ls (s .node) (kidsFrom b len s .count) (kidsFrom b len s .first) a)
+
+-- from the stand where a walk is, if it is anywhere
+abbrev pub thenDown : List ℕ → (ℕ → ℕ) → ℕ → ℕ → Reached → Reached
+thenDown ls b len a NoPath = NoPath
+thenDown ls b len a (To s) = downFrom ls b len s a
+
+unfoldable pub downAlong : List ℕ → (ℕ → ℕ) → ℕ → Key → Reached → Reached
+downAlong ls b len [] at = at
+downAlong ls b len (a ∷ q) at = downAlong ls b len q (thenDown ls b len a at)
 
 abbrev pub reachedAt : (ℕ → ℕ) → ℕ → Option ℕ → Reached
 reachedAt b len none = NoPath

@@ -1,17 +1,22 @@
 // Going down along a query by those words of the bits that lie inside as a whole: a walk keeps the word that has its node's zero, with the zeros up to the end
-// of each of its bytes, and goes on from there. Where a zero stands in none of these words it stops, and `moves::go_on` takes the other steps.
+// of each of its bytes, and goes on from there. Where a zero stands in none of these words it stops, and `moves::go_on` takes the other steps from the word kept on.
 ghost use mathlib.Core.Path.{_≡_};
 ghost use Rattle.keymap.specs.Bits.{bit};
 ghost use Rattle.walks.specs.Rule.{walked};
-ghost use Rattle.walks.specs.Far.{PassedFrom, Ready, ZeroWord, wentOn};
+ghost use Rattle.walks.specs.Stands.{reachedAt};
+ghost use Rattle.walks.specs.Far.{PassedFrom, Ready, ZeroWord, standNear, wentOn};
 use crate::entries::Child;
 use crate::siblings::child_within;
+use crate::siblings::larger;
 use crate::siblings::smaller;
+use crate::stands::Stand;
+use crate::stands::or_end;
 use louds::WORD_BITS;
 use louds::lowest_one;
 use louds::ones_by_byte;
 use louds::ones_from;
 use louds::ones_in;
+use louds::zero_from;
 
 // Where more zeros are to be passed, four words are counted at once. Any number would be right; with others more instructions were taken.
 const FAR: usize = 110;
@@ -33,9 +38,14 @@ pub struct Kept {
     pub sums: u64,
 }
 
-// How far a walk went.
+// How far a walk went: to a node, with the words up to the one kept and the zeros from that word's start on to the node's.
 pub enum Went {
-    To { node: usize, steps: usize },
+    Gone {
+        node: usize,
+        steps: usize,
+        kept: usize,
+        left: usize,
+    },
     Lost,
 }
 
@@ -134,8 +144,9 @@ fn word_with_zero(words: &[u64], whole: usize, first: usize) -> usize
 pub fn go_far(labels: &[u16], words: &[u64], len: usize, query: &[u8]) -> Went
     ensures { λ r.
         ⌜
-        walked (now (labels .entry)) (bit (now (words .entry))) len (now (query .entry))
-        ≡ wentOn (now (labels .entry)) (bit (now (words .entry))) len (now (query .entry)) r
+        wentOn (now (labels .entry)) (bit (now (words .entry))) len (now (query .entry)) r
+        ≡ reachedAt (bit (now (words .entry))) len
+        (walked (now (labels .entry)) (bit (now (words .entry))) len (now (query .entry)))
         ⌝ }
 {
     let whole = smaller(words.len(), len / WORD_BITS);
@@ -149,7 +160,7 @@ pub fn go_far(labels: &[u16], words: &[u64], len: usize, query: &[u8]) -> Went
         if zeros < left {
             let k = pass_on(words, whole, w, left - zeros);
             if k.words == 0 {
-                return Went::To { node, steps: i };
+                break;
             }
             w = k.words;
             left = k.left;
@@ -164,7 +175,7 @@ pub fn go_far(labels: &[u16], words: &[u64], len: usize, query: &[u8]) -> Went
         if more == 0 {
             let v = word_with_zero(words, whole, w);
             if whole <= v {
-                return Went::To { node, steps: i };
+                break;
             }
             to = v * WORD_BITS + lowest_one(!words[v]) - node;
         } else {
@@ -177,5 +188,26 @@ pub fn go_far(labels: &[u16], words: &[u64], len: usize, query: &[u8]) -> Went
         node = m;
         i += 1;
     }
-    Went::To { node, steps: i }
+    Went::Gone {
+        node,
+        steps: i,
+        kept: w,
+        left,
+    }
+}
+
+// The stand at a node to whose zero it is so many zeros from the start of a word on, the last of the first `kept`.
+pub fn stand_near(words: &[u64], len: usize, node: usize, kept: usize, left: usize) -> Stand
+    ensures { λ r. ⌜ r ≡ standNear (bit (now (words .entry))) len node kept left ⌝ }
+{
+    let last = larger(kept, 1) - 1;
+    // a word that begins behind the end has none of the bits
+    if len / WORD_BITS < last {
+        return Stand { node, zero: len };
+    }
+    let spot = zero_from(words, len, last * WORD_BITS, left);
+    Stand {
+        node,
+        zero: or_end(spot, len),
+    }
 }

@@ -1,10 +1,12 @@
--- Whole words: their zeros, the zero of a node in one of them, the next zero, and the child of a node by these two.
+-- Whole words: their zeros, the zero of a node in one of them, the next zero, and the child of a node by these two; and a walk that keeps such a word.
 --
 --     word-next, four-next       the zeros before the next word, and before the fourth from one on
 --     ZeroAt, zero-in            the zero of a node in its word
 --     next-in, next-beyond       and the next zero, in the word or in the first that has one
 --     level-rule                 the child of a node by these two places
 --     entry-rule                 an entry matches a label by its bits but the mark
+--     Keeping, Settled           the word that a walk keeps, and that it has the node's zero
+--     keeping-stand, gone-rule   from there on the node's stand is found, and the walk ends where the rule does
 -- Assumes nothing.
 use mathlib.Core.Path.{_≡_, refl, sym, ap, ap₂, _∙_, subst}
 use Prim.Native.Nat.{ℕ, zero, suc, _+_, _-_, _*_, _/_, _%_, _^_, _≤_, _<_, max, min}
@@ -12,7 +14,7 @@ use native.Mathlib.Nat.{mod-eq-of-lt, mod-lt, lt-of-not-le}
 use native.Mathlib.Decide.{decLe}
 use native.Mathlib.Omega.{arith}
 use mathlib.Core.Bool.{Bool, true, false}
-use mathlib.Core.List.{List, [], _∷_}
+use mathlib.Core.List.{List}
 use mathlib.Core.Option.{Option, none, some}
 use lib.Dec.{eqb, lit<}
 use lib.ListN.{length, getD, drop}
@@ -26,24 +28,29 @@ use Rattle.keymap.proofs.Laws.Sums.{sumBelow-zero, sumBelow-lt}
 use Rattle.keymap.proofs.Laws.Bits.{bit-small}
 use Rattle.louds.specs.Digits.{digit, above}
 use Rattle.louds.specs.Rank.{gap, zerosBefore}
-use Rattle.louds.specs.Select.{zeroAt}
+use Rattle.louds.specs.Select.{onward, zeroAt, zeroFrom}
 use Rattle.louds.specs.Nodes.{orEnd}
-use Rattle.louds.specs.declared.Spot.the-variants.{At}
+use Rattle.louds.specs.declared.Spot.the-variants.{At, Missing}
 use Rattle.louds.proofs.Laws.Rank.{gap-small, ones-zeros}
 use Rattle.louds.proofs.Laws.Words.{ones-low}
 use Rattle.louds.proofs.Laws.Digits.{above-all, above-end, above-wide, ones-few, ones-flat, ones-step, Turn, turn}
 use Rattle.louds.proofs.Laws.Fields.{joined-lt, joined-field}
 use Rattle.louds.proofs.Laws.ByteRanks.{ranked, byteRanks}
-use Rattle.louds.proofs.Laws.Select.{kth-at, marks-zero, marks-one}
+use Rattle.louds.proofs.Laws.Select.{kth-at, kth-bare, onward-before, marks-zero, marks-one}
 use Rattle.louds.proofs.Laws.MarkWords.{markWord, markWord-ones, markWord-digit, below, zeros-marked, ones-marked}
 use Rattle.louds.proofs.Laws.Nodes.{children-at}
 use Rattle.louds.specs.Taking.{onesFrom}
 use Rattle.louds.proofs.Laws.Taking.{Taken, taken}
+use Rattle.walks.specs.declared.stands.Stand.{Stand}
+use Rattle.walks.specs.declared.moves.Reached.the-variants.{To}
 use Rattle.walks.specs.declared.far.Passed.{Passed}
 use Rattle.walks.specs.declared.far.Kept.{Kept}
-use Rattle.walks.specs.Rule.{matches, isChildBy, lowestBy, childBy, walkedFrom}
-use Rattle.walks.specs.Far.{zerosUpTo, zeroBits, PassedFrom, OwnSums, Ready, HasZero, ZeroWord}
-use Rattle.walks.proofs.Laws.Rule.{matches-large, matches-small, isChildBy-root, isChildBy-low, isChildBy-entry, lowestBy-end, lowestBy-here, lowestBy-past, lowestBy-late, childBy-run, walkedFrom-end, isChildBy-told, LowestTold, found, missed, lowest-told}
+use Rattle.walks.specs.declared.far.Went.the-variants.{Gone}
+use Rattle.walks.specs.Rule.{matches, isChildBy, lowestBy, childBy, walkedFrom, walked}
+use Rattle.walks.specs.Stands.{standAt, downAlong, reachedAt}
+use Rattle.walks.specs.Far.{zerosUpTo, zeroBits, PassedFrom, OwnSums, Ready, HasZero, ZeroWord, standNear, wentOn}
+use Rattle.walks.proofs.Laws.Stands.{zero-near, along-rule}
+use Rattle.walks.proofs.Laws.Rule.{matches-large, matches-small, isChildBy-root, isChildBy-low, isChildBy-entry, lowestBy-end, lowestBy-here, lowestBy-past, lowestBy-late, childBy-run, isChildBy-told, LowestTold, found, missed, lowest-told}
 
 -- ---- an entry by its bits
 
@@ -320,26 +327,11 @@ module _ (ls : List ℕ) (k a : ℕ) where
   pub among-end : (at high : ℕ) → high ≤ at → lowestBy ls k (high - at) (at + 1) a ≡ none
   among-end at high l = let e : high - at ≡ 0 = omega arith in ap (λ (x : ℕ). lowestBy ls k x (at + 1) a) e ∙ lowestBy-end ls k (at + 1) a
 
--- ---- walks
-
-drop-none : (k : ℕ) → drop {A = ℕ} k [] ≡ []
-drop-none zero = refl
-drop-none (suc k) = refl
-
-drop-over : (n : ℕ) (xs : Key) → length xs ≤ n → drop n xs ≡ []
-drop-over n [] h = drop-none n
-drop-over zero (x ∷ xs) h = absurd (omega arith)
-drop-over (suc n) (x ∷ xs) h = drop-over n xs (omega arith)
-
--- a walk along nothing more
-pub walkedFrom-over : (ls : List ℕ) (b : ℕ → ℕ) (len : ℕ) (q : Key) (n : ℕ) (at : Option ℕ) → length q ≤ n → walkedFrom ls b len (drop n q) at ≡ at
-walkedFrom-over ls b len q n at h = ap (λ (r : Key). walkedFrom ls b len r at) (drop-over n q h) ∙ walkedFrom-end ls b len at
-
 -- ---- a walk by whole words
 
--- the word kept is the w-th: `left` of the zeros from its start on reach the node's, or it is passed
+-- the word kept is the w-th, or none is: `left` of the zeros from its start on, or from bit 0 on, reach the node's
 pub record Keeping (ws : List ℕ) (whole node w left zeros sums : ℕ) : Type 0 where
-  pub sum : zerosUpTo ws w + left ≡ node + zeros
+  pub sum : zerosUpTo ws (w - 1) + left ≡ node
   pub some : 0 < left
   pub start : w ≡ 0 → zeros ≡ 0
   pub own : 0 < w → (w ≤ whole) × OwnSums ws (w - 1) zeros sums
@@ -356,32 +348,44 @@ pub record Settled (ws : List ℕ) (whole node w left zeros sums : ℕ) : Type 0
 pub keeping-start : (ws : List ℕ) (whole : ℕ) → Keeping ws whole 1 0 1 0 0
 keeping-start ws whole = record { sum = ap (λ (x : ℕ). x + 1) (sumBelow-zero (gap (bit ws))); some = omega arith; start = λ e. refl; own = λ h. absurd (omega (arith, h)) }
 
-pub settled-found : (ws : List ℕ) (whole node w left zeros sums : ℕ) (r : Kept) → Keeping ws whole node w left zeros sums → zeros < left → Ready ws whole w (left - zeros) r → (r .words ≡ 0 → ⊥)
-    → Settled ws whole node (r .words) (r .left) (r .zeros) (r .sums)
-settled-found ws whole node w left zeros sums r k l f there =
-    let o = f (omega (arith, l)) (omega (arith, there)) in
-    record { kept = omega (arith, there); inside = o .inside; sum = omega (arith, o .sum, k .sum, l); some = o .some; enough = o .enough; own = o .own }
+pub keeping-next : (ws : List ℕ) (whole node w left zeros sums m : ℕ) → Settled ws whole node w left zeros sums → node ≤ m → Keeping ws whole m w (left + (m - node)) zeros sums
+keeping-next ws whole node w left zeros sums m s l =
+    record { sum = omega (arith, s .sum, l); some = omega (arith, s .some); start = λ e. absurd (omega (arith, e, s .kept)); own = λ h. (s .inside, s .own) }
 
-pub keeping-next : (ws : List ℕ) (whole node w left zeros sums m : ℕ) (wide : (i : ℕ) → getD ws i 0 < 2 ^ wordBits) → Settled ws whole node w left zeros sums → node ≤ m
-    → Keeping ws whole m w (left + (m - node)) zeros sums
-keeping-next ws whole node w left zeros sums m wide s l =
-    let up : zerosUpTo ws (w - 1 + 1) ≡ zerosUpTo ws w = ap (zerosUpTo ws) (omega (arith, s .kept)) in
-    record {
-      sum = omega (arith, up, word-next ws wide (w - 1), s .sum, s .own .all, l);
-      some = omega (arith, s .some);
-      start = λ e. absurd (omega (arith, e, s .kept));
-      own = λ h. (s .inside, s .own);
-    }
+pub settled-keeping : (ws : List ℕ) (whole node w left zeros sums : ℕ) → Settled ws whole node w left zeros sums → Keeping ws whole node w left zeros sums
+settled-keeping ws whole node w left zeros sums s = record { sum = s .sum; some = s .some; start = λ e. absurd (omega (arith, e, s .kept)); own = λ h. (s .inside, s .own) }
+
+-- the stand at the node, from there on
+pub keeping-stand : (ws : List ℕ) (whole node w left zeros sums len : ℕ) → Keeping ws whole node w left zeros sums → standNear (bit ws) len node w left ≡ standAt (bit ws) len node
+keeping-stand ws whole node w left zeros sums len k =
+    let z : zeroFrom (bit ws) len ((w - 1) * wordBits) left ≡ zeroAt (bit ws) len node = zero-near (bit ws) len ((w - 1) * wordBits) left node (k .some) (k .sum) in
+    λ x. record { node = node; zero = orEnd len (z x) }
 
 module _ (ws : List ℕ) (wide : (i : ℕ) → getD ws i 0 < 2 ^ wordBits) (whole node w left zeros sums : ℕ) where
+  -- the zeros before the next word
+  zeros-passed : Keeping ws whole node w left zeros sums → zerosUpTo ws w + left ≡ node + zeros
+  zeros-passed k = at (decLe 1 w)
+    where
+      at : Dec (1 ≤ w) → zerosUpTo ws w + left ≡ node + zeros
+      at (yes h) =
+          let up : zerosUpTo ws (w - 1 + 1) ≡ zerosUpTo ws w = ap (zerosUpTo ws) (omega (arith, h)) in
+          omega (arith, up, word-next ws wide (w - 1), k .sum, k .own h .1 .all)
+      at (no h) =
+          let none-kept : w ≡ 0 = omega arith in
+          let same : zerosUpTo ws (w - 1) ≡ zerosUpTo ws w = ap (zerosUpTo ws) (omega arith) in
+          omega (arith, same, k .sum, k .start none-kept)
+
+  pub settled-found : (r : Kept) → Keeping ws whole node w left zeros sums → zeros < left → Ready ws whole w (left - zeros) r → (r .words ≡ 0 → ⊥)
+      → Settled ws whole node (r .words) (r .left) (r .zeros) (r .sums)
+  settled-found r k l f there =
+      let o = f (omega (arith, l)) (omega (arith, there)) in
+      record { kept = omega (arith, there); inside = o .inside; sum = omega (arith, o .sum, zeros-passed k, l); some = o .some; enough = o .enough; own = o .own }
+
   pub settled-kept : Keeping ws whole node w left zeros sums → left ≤ zeros → Settled ws whole node w left zeros sums
   settled-kept k l = at (decLe 1 w)
     where
       at : Dec (1 ≤ w) → Settled ws whole node w left zeros sums
-      at (yes h) =
-          let o = k .own h in
-          let up : zerosUpTo ws (w - 1 + 1) ≡ zerosUpTo ws w = ap (zerosUpTo ws) (omega (arith, h)) in
-          record { kept = h; inside = o .0; sum = omega (arith, up, word-next ws wide (w - 1), k .sum, o .1 .all); some = k .some; enough = l; own = o .1 }
+      at (yes h) = let o = k .own h in record { kept = h; inside = o .0; sum = k .sum; some = k .some; enough = l; own = o .1 }
       at (no h) = let none-kept : w ≡ 0 = omega arith in absurd (omega (arith, k .some, l, k .start none-kept))
 
   module _ (s : Settled ws whole node w left zeros sums) (rest : ℕ) (is : rest ≡ onesFrom (zeroBits ws (w - 1)) sums left) where
@@ -484,3 +488,21 @@ lowest-bounds ls k left m a c e = go (lowestBy ls k left m a) e (lowest-told lef
 
 pub zeros-most : (ws : List ℕ) (w : ℕ) → ((i : ℕ) → getD ws i 0 < 2 ^ wordBits) → ones (zeroBits ws w) ≤ 64
 zeros-most ws w wide = ones-le wordBits (zeroBits ws w) (word-wide ws wide w)
+
+-- a walk that went so far ends where the rule does
+pub gone-rule : (ls ws : List ℕ) (len : ℕ) (q : Key) (node steps kept left : ℕ) → walked ls (bit ws) len q ≡ walkedFrom ls (bit ws) len (drop steps q) (some node)
+    → standNear (bit ws) len node kept left ≡ standAt (bit ws) len node
+    → wentOn ls (bit ws) len q (Gone node steps kept left) ≡ reachedAt (bit ws) len (walked ls (bit ws) len q)
+gone-rule ls ws len q node steps kept left walk stand =
+    ap (λ (s : Stand). downAlong ls (bit ws) len (drop steps q) (To s)) stand
+    ∙ along-rule (bit ws) (bit-small ws) len ls (drop steps q) (some node)
+    ∙ sym (ap (reachedAt (bit ws) len) walk)
+
+-- a word that begins behind the end has no zero of the bits
+pub near-beyond : (ws : List ℕ) (len node kept left : ℕ) → len ≤ (kept - 1) * wordBits → standNear (bit ws) len node kept left ≡ record { node = node; zero = len }
+unfolding orEnd
+near-beyond ws len node kept left far =
+    let from : ℕ = (kept - 1) * wordBits in
+    let z : zeroFrom (bit ws) len from left ≡ Missing = kth-bare (onward from (gap (bit ws))) len left (λ i l. onward-before (gap (bit ws)) from i (omega (arith, l, far))) in
+    let e : orEnd len (zeroFrom (bit ws) len from left) ≡ len = ap (orEnd len) z in
+    λ x. record { node = node; zero = e x }

@@ -4,18 +4,23 @@
 --     kidsFrom-none, kidsFrom-some    the children of a stand, by that test
 --     kids-numbered                   their numbers
 --     kids-rule                       they are the node's
+--     stand-near                        the stand at a node, from a place on that has so many zeros before it
 --     kid-rule                        the stand at a child
---     down-rule                       one step down
+--     down-rule, along-rule           one step down, and all steps of a query
+--     downAlong-next, -over, -lost    these steps in turn
 -- Assumes nothing.
 use mathlib.Core.Path.{_≡_, refl, sym, ap, _∙_}
-use Prim.Native.Nat.{ℕ, _+_, _-_, _≤_, _<_}
+use Prim.Native.Nat.{ℕ, zero, suc, _+_, _-_, _≤_, _<_}
 use native.Mathlib.Nat.{lt-of-not-le}
 use native.Mathlib.Decide.{decLe}
+use native.Mathlib.Numerals.{add-one}
 use native.Mathlib.Omega.{arith}
 use mathlib.Core.Bool.{Bool, true, false, true≢false}
-use mathlib.Core.List.{List}
+use mathlib.Core.List.{List, [], _∷_}
 use mathlib.Core.Option.{Option, none, some}
 use lib.Dec.{ltb, leb}
+use lib.ListN.{length, getD, drop}
+use lib.Seq.{drop-cons}
 use borrow.Author.Tests.{lt-ltb, le-ltb, le-leb, lt-leb, ltb-true, leb-true}
 use Rattle.louds.specs.declared.Spot.{Spot}
 use Rattle.louds.specs.declared.Spot.the-variants.{At, Missing}
@@ -25,6 +30,7 @@ use Rattle.louds.specs.Nodes.{orEnd}
 use Rattle.louds.proofs.Laws.Rank.{gap-small, ones-zeros}
 use Rattle.louds.proofs.Laws.Select.{Stands, kth-zero, kth-told, onward-before, rank-kth, kth-missing, kth-next, kth-onward}
 use Rattle.louds.proofs.Laws.Nodes.{children-none, children-at}
+use Rattle.keymap.specs.Key.{Key}
 use Rattle.keymap.specs.Bits.{sumBelow}
 use Rattle.keymap.proofs.Laws.Sums.{sumBelow-mono, sumBelow-next}
 use Rattle.walks.specs.declared.stands.Stand.{Stand}
@@ -33,8 +39,8 @@ use Rattle.walks.specs.declared.entries.Child.the-variants.{Node, Absent
 use Rattle.walks.specs.declared.entries.Held.the-variants.{Value, NoValue}
 use Rattle.walks.specs.declared.moves.Reached.{Reached}
 use Rattle.walks.specs.declared.moves.Reached.the-variants.{To, NoPath}
-use Rattle.walks.specs.Rule.{lowestBy, childBy}
-use Rattle.walks.specs.Stands.{standAt, isStand, nextZero, kidsFrom, kidFrom, childOf, heldOf, toKid, downFrom, reachedAt}
+use Rattle.walks.specs.Rule.{lowestBy, childBy, walkedFrom}
+use Rattle.walks.specs.Stands.{standAt, isStand, nextZero, kidsFrom, kidFrom, childOf, heldOf, toKid, downFrom, downAlong, reachedAt}
 use Rattle.walks.proofs.Laws.Rule.{isChildBy-told, LowestTold, found, missed, lowest-told, lowestBy-end, childBy-none, childBy-run}
 
 -- ---- the test of a place
@@ -130,6 +136,10 @@ kids-numbered b len s = go (isStand len (s .node) (s .zero)) refl
 
 -- ---- a stand that knows its zero
 
+-- a zero from a place on, by the zeros before that
+pub zero-near : (b : ℕ → ℕ) (len from left k : ℕ) → 0 < left → sumBelow (gap b) from + left ≡ k → zeroFrom b len from left ≡ zeroAt b len k
+zero-near b len from left k l sum = kth-onward (gap b) from len left l ∙ ap (zeroAt b len) sum
+
 module _ (b : ℕ → ℕ) (small : (i : ℕ) → b i ≤ 1) (len : ℕ) where
   -- where node k's zero is missing it has no children, as the rule says
   lost : (k : ℕ) → zeroAt b len k ≡ Missing → kidsFrom b len (standAt b len k) ≡ record { first = 0; count = 0; next = len }
@@ -185,8 +195,7 @@ module _ (b : ℕ → ℕ) (small : (i : ℕ) → b i ≤ 1) (len : ℕ) where
   unfolding kidFrom
   kid-rule k p m e l =
       let next : ℕ = orEnd len (zeroAt b len (k + 1)) in
-      let z : zeroFrom b len next (m - k) ≡ zeroAt b len m =
-      kth-onward (gap b) next len (m - k) (omega arith) ∙ ap (zeroAt b len) (omega (arith, zeros-before k p e)) in
+      let z : zeroFrom b len next (m - k) ≡ zeroAt b len m = zero-near b len next (m - k) m (omega arith) (omega (arith, zeros-before k p e)) in
       λ x. record { node = m; zero = orEnd len (z x) }
 
   -- one step down goes where the rule goes
@@ -212,6 +221,41 @@ module _ (b : ℕ → ℕ) (small : (i : ℕ) → b i ≤ 1) (len : ℕ) where
           ap (λ (c : Children). toKid b len k (c .next) (lowestBy ls k (c .count) (c .first) a)) (lost k e)
           ∙ ap (toKid b len k len) (lowestBy-end ls k 0 a)
           ∙ ap (reachedAt b len) (sym (childBy-none ls b len k a (children-none b len k e)))
+
+  -- and all steps of a query
+  pub along-rule : (ls : List ℕ) (q : Key) (o : Option ℕ) → downAlong ls b len q (reachedAt b len o) ≡ reachedAt b len (walkedFrom ls b len q o)
+  unfolding downAlong walkedFrom
+  along-rule ls [] o = refl
+  along-rule ls (a ∷ q) none = along-rule ls q none
+  along-rule ls (a ∷ q) (some k) = ap (downAlong ls b len q) (down-rule ls k a) ∙ along-rule ls q (childBy ls b len k a)
+
+-- ---- a walk along a query, from behind its first j bytes on
+
+drop-none : (j : ℕ) → drop {A = ℕ} j [] ≡ []
+drop-none zero = refl
+drop-none (suc j) = refl
+
+drop-over : (j : ℕ) (q : Key) → length q ≤ j → drop j q ≡ []
+drop-over j [] h = drop-none j
+drop-over zero (a ∷ q) h = absurd (omega arith)
+drop-over (suc j) (a ∷ q) h = drop-over j q (omega arith)
+
+module _ (ls : List ℕ) (b : ℕ → ℕ) (len : ℕ) where
+  pub downAlong-next : (q : Key) (j : ℕ) (s : Stand) → j < length q
+      → downAlong ls b len (drop j q) (To s) ≡ downAlong ls b len (drop (j + 1) q) (downFrom ls b len s (getD q j 0))
+  unfolding downAlong
+  downAlong-next q j s h =
+      ap (λ (r : Key). downAlong ls b len r (To s)) (drop-cons q j 0 h)
+      ∙ ap (λ (n : ℕ). downAlong ls b len (drop n q) (downFrom ls b len s (getD q j 0))) (sym (add-one j))
+
+  pub downAlong-over : (q : Key) (j : ℕ) (at : Reached) → length q ≤ j → downAlong ls b len (drop j q) at ≡ at
+  unfolding downAlong
+  downAlong-over q j at h = ap (λ (r : Key). downAlong ls b len r at) (drop-over j q h)
+
+  pub downAlong-lost : (q : Key) → downAlong ls b len q NoPath ≡ NoPath
+  unfolding downAlong
+  downAlong-lost [] = refl
+  downAlong-lost (a ∷ q) = downAlong-lost q
 
 -- what an answer tells
 pub record ReachedTold (b : ℕ → ℕ) (len : ℕ) (o : Option ℕ) (t : Stand) : Type 0 where

@@ -15,11 +15,11 @@ use Rattle.keymap.specs.Bits.{bit}
 use Rattle.walks.specs.declared.entries.Child.{Child}
 use Rattle.walks.specs.declared.entries.Child.the-variants.{Node}
 use Rattle.walks.specs.Rule.{lowestBy, childBy, walkedFrom, walked}
-use Rattle.walks.specs.Stands.{childOf}
+use Rattle.walks.specs.Stands.{childOf, reachedAt}
 use Rattle.walks.specs.Far.{zeroBits, ZeroWord}
 use Rattle.walks.proofs.Laws.Rule.{walkedFrom-next, walkedFrom-lost}
 use Rattle.walks.proofs.Laws.Stands.{childOf-node, childOf-absent}
-use Rattle.walks.proofs.Laws.Far.{Keeping, Settled, keeping-start, settled-found, settled-kept, settled-same, keeping-next, Stood, stood, NextAt, ahead-in, ahead-beyond, child-rule-far, lowest-bounds, zeros-most}
+use Rattle.walks.proofs.Laws.Far.{Keeping, Settled, keeping-start, settled-found, settled-kept, settled-keeping, settled-same, keeping-next, keeping-stand, gone-rule, Stood, stood, NextAt, ahead-in, ahead-beyond, child-rule-far, lowest-bounds, zeros-most}
 use Rattle.walks.proofs.far.go_far.Statement.{statement}
 use Rattle.walks.proofs.far.go_far.Tie as tie
 
@@ -46,9 +46,6 @@ sub-pass-on c = omega (arith, c .if1 .taken)
 pass-on-requires : tie.Need-pass-on-requires Inv-loop μ-loop
 pass-on-requires c κs = search needs
 
-returns : tie.Need-returns Inv-loop μ-loop
-returns c = c .before .before .before .before .before .loop .inv .4
-
 -- the word that is kept now has the node's zero
 module _ (c : tie.After-row-known Inv-loop μ-loop) where
   abbrev ws : List ℕ
@@ -67,7 +64,7 @@ module _ (c : tie.After-row-known Inv-loop μ-loop) where
       ⊎-elim
       (λ t.
       settled-same ws whole (l .node) (j .w) (j .left) (j .zeros) (j .sums) (t .1 .result .words) (t .1 .result .left) (t .1 .result .zeros) (t .1 .result .sums) (t .4) (t .5) (t .6) (t .7)
-      (settled-found ws whole (l .node) (l .w) (l .left) (l .zeros) (l .sums) (t .1 .result) (l .inv .3) (t .0 .taken) (t .1 .ensures) (t .3 .left)))
+      (settled-found ws wide whole (l .node) (l .w) (l .left) (l .zeros) (l .sums) (t .1 .result) (l .inv .3) (t .0 .taken) (t .1 .ensures) (t .3 .left)))
       (λ e.
       settled-same ws whole (l .node) (j .w) (j .left) (j .zeros) (j .sums) (l .w) (l .left) (l .zeros) (l .sums) (e .1) (e .2) (e .3) (e .4)
       (settled-kept ws wide whole (l .node) (l .w) (l .left) (l .zeros) (l .sums) (l .inv .3) (e .0 .left)))
@@ -113,9 +110,6 @@ sub-more c = omega (arith, stands (c .before) .some)
 
 word-with-zero-requires : tie.Need-word-with-zero-requires Inv-loop μ-loop
 word-with-zero-requires c κs = search needs
-
-returns-2 : tie.Need-returns-2 Inv-loop μ-loop
-returns-2 c = c .before .before .before .before .before .before .before .before .before .loop .inv .4
 
 mul-to : tie.Need-mul-to Inv-loop μ-loop
 mul-to c = omega (arith, c .if4 .left, c .before .before .before .before .before .before .before .before .before .loop .inv .2, c .before .before .before .before .before .before .before .before .before .before .before .before .before .before .fits .len .fits)
@@ -213,16 +207,18 @@ enum-known-m c = search needs
 enum-told : tie.Need-enum-told Inv-loop μ-loop
 enum-told c = search needs
 
-returns-3 : tie.Need-returns-3 Inv-loop μ-loop
-returns-3 c =
+returns : tie.Need-returns Inv-loop μ-loop
+returns c =
     let a = c .before .before .before .before .before .before .before .before .before .before .before .before .before .before .before .before .args in
     let l = c .before .before .before .before .before .before .before .before .before .before .before .loop in
     let b = bit (a .words .now) in
     let lost = childOf-absent (childBy (a .labels .now) b (a .len) (l .node) (getD (a .query .now) (l .i) 0)) (step (c .before .before) _ (c .enum-told .given .1)) in
-    l .inv .4
+    sym
+    (ap (reachedAt b (a .len))
+    (l .inv .4
     ∙ walkedFrom-next (a .labels .now) b (a .len) (a .query .now) (l .i) (l .node) (omega (arith, c .before .before .before .before .before .before .before .before .before .before .loop-test .taken))
     ∙ ap (walkedFrom (a .labels .now) b (a .len) (drop (l .i + 1) (a .query .now))) lost
-    ∙ walkedFrom-lost (a .labels .now) b (a .len) (drop (l .i + 1) (a .query .now))
+    ∙ walkedFrom-lost (a .labels .now) b (a .len) (drop (l .i + 1) (a .query .now))))
 
 sub-left : tie.Need-sub-left Inv-loop μ-loop
 sub-left c = omega (arith, bounds (c .before .before .before) _ (c .before .m .given .1))
@@ -250,14 +246,34 @@ loop-again c =
       omega (arith, c .before .before .before .before .before .before .before .before .before .before .before .before .loop-test .taken),
       l .inv .1,
       l .inv .2,
-      keeping-next (ws k) (whole k) (l .node) (k .before .if1 .w) (k .before .if1 .left) (k .before .if1 .zeros) (k .before .if1 .sums) (c .before .before .m .given .0 .0) (wide k) (settled k) (omega (arith, d)),
+      keeping-next (ws k) (whole k) (l .node) (k .before .if1 .w) (k .before .if1 .left) (k .before .if1 .zeros) (k .before .if1 .sums) (c .before .before .m .given .0 .0) (settled k) (omega (arith, d)),
       l .inv .4
           ∙ walkedFrom-next (a .labels .now) b (a .len) (a .query .now) (l .i) (l .node) (omega (arith, c .before .before .before .before .before .before .before .before .before .before .before .before .loop-test .taken))
           ∙ ap (walkedFrom (a .labels .now) b (a .len) (drop (l .i + 1) (a .query .now))) there,
     )
 
+returns-2 : tie.Need-returns-2 Inv-loop μ-loop
+returns-2 c =
+    let a = c .before .before .before .before .before .before .args in
+    let l = c .before .loop in
+    gone-rule (a .labels .now) (a .words .now) (a .len) (a .query .now) (l .node) (l .i) (l .w) (l .left) (l .inv .4)
+    (keeping-stand (a .words .now) (c .before .before .smaller .result) (l .node) (l .w) (l .left) (l .zeros) (l .sums) (a .len) (l .inv .3))
+
+returns-3 : tie.Need-returns-3 Inv-loop μ-loop
+returns-3 c =
+    let a = c .before .before .before .before .before .before .before .before .before .before .args in
+    let l = c .before .before .before .before .before .loop in
+    gone-rule (a .labels .now) (a .words .now) (a .len) (a .query .now) (l .node) (l .i) (l .w) (l .left) (l .inv .4)
+    (keeping-stand (a .words .now) (c .before .before .before .before .before .before .smaller .result) (l .node) (l .w) (l .left) (l .zeros) (l .sums) (a .len) (l .inv .3))
+
 returns-4 : tie.Need-returns-4 Inv-loop μ-loop
-returns-4 c = c .before .loop .inv .4
+returns-4 c =
+    let a = c .before .before .before .before .before .before .before .before .before .before .before .before .before .before .args in
+    let l = c .before .before .before .before .before .before .before .before .before .loop in
+    let k = c .before .before .before .before .before .before in
+    let n = k .before .if1 in
+    gone-rule (a .labels .now) (a .words .now) (a .len) (a .query .now) (l .node) (l .i) (n .w) (n .left) (l .inv .4)
+    (keeping-stand (a .words .now) (whole k) (l .node) (n .w) (n .left) (n .zeros) (n .sums) (a .len) (settled-keeping (a .words .now) (whole k) (l .node) (n .w) (n .left) (n .zeros) (n .sums) (settled k)))
 
 pub go-far-spec : {M : Type 1} → statement M
 go-far-spec =
@@ -269,7 +285,6 @@ go-far-spec =
     loop-holds
     sub-pass-on
     pass-on-requires
-    returns
     sub-ones-from
     mul-ones-from
     shared-slice-read-ones-from
@@ -281,7 +296,6 @@ go-far-spec =
     sub-from
     sub-more
     word-with-zero-requires
-    returns-2
     mul-to
     mul-lowest-one
     shared-slice-read-lowest-one
@@ -295,10 +309,12 @@ go-far-spec =
     child-within-requires
     enum-known-m
     enum-told
-    returns-3
+    returns
     sub-left
     add-left
     add-i
     loop-less
     loop-again
+    returns-2
+    returns-3
     returns-4)

@@ -1,22 +1,33 @@
--- `walks::moves::walk` meets its contract: the stand is the one at the node where the walk ended. Assumes nothing.
-use mathlib.Core.Path.{sym, ap, _∙_}
+-- `walks::moves::walk` meets its contract: the stand where the walk ended, looked for if whole words left it open. Assumes nothing.
+use mathlib.Core.Path.{_≡_, sym, ap, _∙_}
+use native.Mathlib.Omega.{arith}
+use lib.ListN.{length}
 use Rattle.keymap.specs.Bits.{bit}
+use Rattle.walks.specs.declared.moves.Ended.{Ended}
 use Rattle.walks.specs.declared.moves.Reached.the-variants.{To}
 use Rattle.walks.specs.Rule.{walked}
 use Rattle.walks.specs.Stands.{reachedAt}
-use Rattle.walks.proofs.Laws.Stands.{childOf-node, childOf-absent}
+use Rattle.walks.specs.Far.{standNear, endedAt}
+use Rattle.walks.proofs.Laws.Stands.{downAlong-over}
 use borrow.Author.Needs.{needs}
 use Rattle.walks.proofs.moves.walk.Statement.{statement}
 use Rattle.walks.proofs.moves.walk.Tie as tie
 
-end-of-requires : tie.Need-end-of-requires
-end-of-requires c κs = search needs
+reach-end-requires : tie.Need-reach-end-requires
+reach-end-requires c κs = search needs
 
-enum-known-m : tie.Need-enum-known-m
-enum-known-m c = search needs
+-- where the walk ended, by the rule
+told : (c : tie.After-reach-end) (r : Ended) → c .reach-end .result ≡ r → reachedAt (bit (c .before .before .before .before .args .words .now)) (c .before .before .before .before .args .len) (walked (c .before .before .before .before .args .labels .now) (bit (c .before .before .before .before .args .words .now)) (c .before .before .before .before .args .len) (c .before .before .before .before .args .query .now)) ≡ endedAt (bit (c .before .before .before .before .args .words .now)) (c .before .before .before .before .args .len) r
+told c r e = sym (c .reach-end .ensures) ∙ ap (endedAt (bit (c .before .before .before .before .args .words .now)) (c .before .before .before .before .args .len)) e
 
-stand-at-requires : tie.Need-stand-at-requires
-stand-at-requires c κs = search needs
+enum-known-node : tie.Need-enum-known-node
+enum-known-node c = search needs
+
+go-on-requires : tie.Need-go-on-requires
+go-on-requires c κs = search needs
+
+enum-known-s : tie.Need-enum-known-s
+enum-known-s c = search needs
 
 enum-told : tie.Need-enum-told
 enum-told c = search needs
@@ -25,15 +36,27 @@ returns : tie.Need-returns
 returns c =
     let a = c .before .before .before .before .before .before .before .before .args in
     let b = bit (a .words .now) in
-    let there = childOf-node (walked (a .labels .now) b (a .len) (a .query .now)) _ (sym (c .before .before .before .before .end-of .ensures) ∙ c .before .before .m .given .1) in
-    ap To (c .stand-at .ensures) ∙ sym (ap (reachedAt b (a .len)) there)
+    let at = c .before .before .node .given in
+    let near = standNear b (a .len) (at .0 .0) (at .0 .1 .0) (at .0 .1 .1 .0) in
+    c .go-on .ensures
+    ∙ downAlong-over (a .labels .now) b (a .len) (a .query .now) (length (a .query .now)) (To near) (omega arith)
+    ∙ sym (told (c .before .before .before .before) _ (at .1))
 
 returns-2 : tie.Need-returns-2
-returns-2 c =
-    let a = c .before .before .before .before .before .before .args in
-    let b = bit (a .words .now) in
-    sym (ap (reachedAt b (a .len)) (childOf-absent (walked (a .labels .now) b (a .len) (a .query .now)) (sym (c .before .before .end-of .ensures) ∙ c .enum-told .given .1)))
+returns-2 c = sym (told (c .before .before .before) _ (c .before .s .given .1))
+
+returns-3 : tie.Need-returns-3
+returns-3 c = sym (told (c .before .before) _ (c .enum-told .given .1))
 
 pub walk-spec : {M : Type 1} → statement M
 walk-spec =
-    tie.close (tie.spec end-of-requires enum-known-m stand-at-requires enum-told returns returns-2)
+    tie.close
+    (tie.spec
+    reach-end-requires
+    enum-known-node
+    go-on-requires
+    enum-known-s
+    enum-told
+    returns
+    returns-2
+    returns-3)

@@ -16,12 +16,12 @@ use crate::answers::Stepped;
 use climbs::below::is_below;
 use climbs::order::Given;
 use climbs::order::next_valued;
+use descents::walk;
 use image::is_image;
 use walks::entries::Held;
 use walks::entries::is_node;
 use walks::entries::value_at;
 use walks::moves::Reached;
-use walks::moves::walk;
 use walks::stands::Stand;
 use walks::stands::kids;
 

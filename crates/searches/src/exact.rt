@@ -6,13 +6,13 @@ ghost use Rattle.searches.specs.Answers.{saidLooked, saidPrefixed};
 ghost use Rattle.searches.specs.Exact.{keyedIn, goesOn, exactSays, setValues, isPrefixSays};
 use crate::answers::Looked;
 use crate::answers::Prefixed;
+use descents::end_of;
+use descents::walk;
 use image::is_image;
 use walks::entries::Child;
 use walks::entries::Held;
 use walks::entries::value_at;
 use walks::moves::Reached;
-use walks::moves::end_of;
-use walks::moves::walk;
 use walks::stands::kids;
 
 // A key by its node.

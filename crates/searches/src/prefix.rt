@@ -5,10 +5,10 @@ ghost use Rattle.searches.specs.Answers.{saidLongest};
 ghost use Rattle.searches.specs.Prefix.{longestSays, longestOut};
 use crate::answers::Longest;
 use climbs::spelling::spell;
+use descents::walk;
 use image::is_image;
 use walks::glide::glide;
 use walks::moves::Reached;
-use walks::moves::walk;
 
 // The longest common prefix of all keys that begin with a query, its own among them, written to the front of a buffer. The buffer is compared with its length.
 pub fn longest_prefix(

@@ -5,7 +5,8 @@ pub use Rattle.records.proofs.AsksNothing.{entry-of-asks-nothing, label-of-asks
 pub use Rattle.pool.proofs.AsksNothing.{reset-asks-nothing, use-count-asks-nothing, push-asks-nothing}
 pub use Rattle.image.proofs.AsksNothing.{accept-asks-nothing, is-image-asks-nothing, build-asks-nothing, lengths-fit-asks-nothing}
 pub use Rattle.lines.proofs.AsksNothing.{tab-line-asks-nothing, tab-line-key-asks-nothing, next-line-asks-nothing, write-line-asks-nothing}
-pub use Rattle.walks.proofs.AsksNothing.{is-node-asks-nothing, counts-to-asks-nothing, value-at-asks-nothing, or-end-asks-nothing, stand-at-asks-nothing, kids-asks-nothing, kid-at-asks-nothing, down-asks-nothing, walk-asks-nothing, glide-asks-nothing, entry-matches-asks-nothing, end-of-asks-nothing}
+pub use Rattle.walks.proofs.AsksNothing.{is-node-asks-nothing, counts-to-asks-nothing, value-at-asks-nothing, or-end-asks-nothing, stand-at-asks-nothing, kids-asks-nothing, kid-at-asks-nothing, down-asks-nothing, glide-asks-nothing, entry-matches-asks-nothing, smaller-asks-nothing, larger-asks-nothing, child-within-asks-nothing}
+pub use Rattle.descents.proofs.AsksNothing.{walk-asks-nothing, end-of-asks-nothing}
 pub use Rattle.climbs.proofs.AsksNothing.{perch-at-asks-nothing, parent-of-asks-nothing as perch-parent-asks-nothing, depth-asks-nothing, spell-asks-nothing, is-below-asks-nothing, next-valued-asks-nothing}
 pub use Rattle.searches.proofs.AsksNothing.{exact-match-asks-nothing, exact-match-untested-asks-nothing, set-value-asks-nothing, is-prefix-asks-nothing, common-prefix-asks-nothing, common-prefix-part-asks-nothing, longest-prefix-asks-nothing}
 pub use Rattle.listings.proofs.AsksNothing.{predictive-search-asks-nothing, postfix-search-asks-nothing, step-asks-nothing, cursor-key-asks-nothing, top-asks-nothing, finished-asks-nothing}

@@ -6,7 +6,8 @@ pub use Rattle.records.proofs.Determined.{entry-of-determined, label-of-determi
 pub use Rattle.pool.proofs.Determined.{reset-determined, use-count-determined, push-determined}
 pub use Rattle.image.proofs.Determined.{accept-determined, is-image-determined, lengths-fit-determined, build-determined}
 pub use Rattle.lines.proofs.Determined.{tab-line-determined, tab-line-key-determined, next-line-determined, write-line-determined}
-pub use Rattle.walks.proofs.Determined.{is-node-determined, counts-to-determined, value-at-determined, or-end-determined, stand-at-determined, kids-determined, kid-at-determined, down-determined, walk-determined, glide-determined, entry-matches-determined, end-of-determined}
+pub use Rattle.walks.proofs.Determined.{is-node-determined, counts-to-determined, value-at-determined, or-end-determined, stand-at-determined, kids-determined, kid-at-determined, down-determined, glide-determined, entry-matches-determined, smaller-determined, larger-determined, child-within-determined}
+pub use Rattle.descents.proofs.Determined.{walk-determined, end-of-determined}
 pub use Rattle.climbs.proofs.Determined.{perch-at-determined, parent-of-determined as perch-parent-determined, depth-determined, spell-determined, is-below-determined, next-valued-determined}
 pub use Rattle.searches.proofs.Determined.{exact-match-determined, exact-match-untested-determined, set-value-determined, is-prefix-determined, common-prefix-determined, common-prefix-part-determined, longest-prefix-determined}
 pub use Rattle.listings.proofs.Determined.{predictive-search-determined, postfix-search-determined, cursor-key-determined, step-determined, top-determined, finished-determined}

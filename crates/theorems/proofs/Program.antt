@@ -8,11 +8,10 @@ use native.Mathlib.Omega.{arith}
 use lib.ListN.{length}
 use Rattle.keymap.specs.Prefixes.{prefixes, levels, deepest}
 use Rattle.lines.specs.Text.{entryLines}
-use Rattle.lines.specs.Writing.{mapText}
 use Rattle.catalogue.specs.Limits.{fileLimit, programCapacity}
 use Rattle.catalogue.specs.TextAnswers.{textFrom, textSays, textMap}
 use Rattle.catalogue.specs.TextCases.{Whole, FirstRefusal}
-use Rattle.catalogue.specs.Program.{tooLongText, refusedText, answerText, programText}
+use Rattle.catalogue.specs.Program.{answerText, programText}
 use Rattle.catalogue.proofs.Laws.TextAnswers.{Stopped, Told, text-refuses, text-accepts, text-accepted, text-long, text-short, text-told, text-whole}
 use Rattle.catalogue.proofs.Laws.Program.{listing-length}
 use Rattle.theorems.specs.Program.{ProgramWrites}

@@ -6,7 +6,8 @@ pub use Rattle.records.proofs.Ties.{entry-of-says, label-of-says, value-of-says
 pub use Rattle.pool.proofs.Ties.{reset-says, use-count-says, push-says}
 pub use Rattle.image.proofs.Ties.{is-image-says, lengths-fit-says, accept-says, build-says}
 pub use Rattle.lines.proofs.Ties.{tab-line-says, tab-line-key-says, next-line-says, write-line-says}
-pub use Rattle.walks.proofs.Ties.{is-node-says, counts-to-says, value-at-says, or-end-says, stand-at-says, kids-says, kid-at-says, down-says, walk-says, glide-says, entry-matches-says, end-of-says}
+pub use Rattle.walks.proofs.Ties.{is-node-says, counts-to-says, value-at-says, or-end-says, stand-at-says, kids-says, kid-at-says, down-says, glide-says, entry-matches-says, smaller-says, larger-says, child-within-says}
+pub use Rattle.descents.proofs.Ties.{walk-says, end-of-says}
 pub use Rattle.climbs.proofs.Ties.{perch-at-says, parent-of-says as perch-parent-says, depth-says, spell-says, is-below-says, next-valued-says}
 pub use Rattle.searches.proofs.Ties.{exact-match-says, exact-match-untested-says, set-value-says, is-prefix-says, common-prefix-says, common-prefix-part-says, longest-prefix-says}
 pub use Rattle.listings.proofs.Ties.{predictive-search-says, postfix-search-says, step-says, cursor-key-says, top-says, finished-says}

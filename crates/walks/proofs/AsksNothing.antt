@@ -17,14 +17,16 @@ use Rattle.walks.proofs.stands.kid_at
 use Rattle.walks.proofs.stands.kid_at.Reads as kid-at-reads
 use Rattle.walks.proofs.moves.down
 use Rattle.walks.proofs.moves.down.Reads as down-reads
-use Rattle.walks.proofs.moves.walk
-use Rattle.walks.proofs.moves.walk.Reads as walk-reads
 use Rattle.walks.proofs.glide.glide
 use Rattle.walks.proofs.glide.glide.Reads as glide-reads
 use Rattle.walks.proofs.entries.entry_matches
 use Rattle.walks.proofs.entries.entry_matches.Reads as entry-matches-reads
-use Rattle.walks.proofs.moves.end_of
-use Rattle.walks.proofs.moves.end_of.Reads as end-of-reads
+use Rattle.walks.proofs.siblings.smaller
+use Rattle.walks.proofs.siblings.smaller.Reads as smaller-reads
+use Rattle.walks.proofs.siblings.larger
+use Rattle.walks.proofs.siblings.larger.Reads as larger-reads
+use Rattle.walks.proofs.siblings.child_within
+use Rattle.walks.proofs.siblings.child_within.Reads as child-within-reads
 
 pub is-node-asks-nothing : (κs : Lfts 1) (a : ArgsD is_node.signature κs) → is-node-reads.Pre κs a
 is-node-asks-nothing κs a = tt
@@ -50,14 +52,17 @@ kid-at-asks-nothing κs a = tt
 pub down-asks-nothing : (κs : Lfts 2) (a : ArgsD down.signature κs) → down-reads.Pre κs a
 down-asks-nothing κs a = tt
 
-pub walk-asks-nothing : (κs : Lfts 3) (a : ArgsD walk.signature κs) → walk-reads.Pre κs a
-walk-asks-nothing κs a = tt
-
 pub glide-asks-nothing : (κs : Lfts 3) (a : ArgsD glide.signature κs) → glide-reads.Pre κs a
 glide-asks-nothing κs a = tt
 
 pub entry-matches-asks-nothing : (κs : Lfts 0) (a : ArgsD entry_matches.signature κs) → entry-matches-reads.Pre κs a
 entry-matches-asks-nothing κs a = tt
 
-pub end-of-asks-nothing : (κs : Lfts 3) (a : ArgsD end_of.signature κs) → end-of-reads.Pre κs a
-end-of-asks-nothing κs a = tt
+pub smaller-asks-nothing : (κs : Lfts 0) (a : ArgsD smaller.signature κs) → smaller-reads.Pre κs a
+smaller-asks-nothing κs a = tt
+
+pub larger-asks-nothing : (κs : Lfts 0) (a : ArgsD larger.signature κs) → larger-reads.Pre κs a
+larger-asks-nothing κs a = tt
+
+pub child-within-asks-nothing : (κs : Lfts 1) (a : ArgsD child_within.signature κs) → child-within-reads.Pre κs a
+child-within-asks-nothing κs a = tt

@@ -29,18 +29,21 @@ use Rattle.walks.proofs.stands.kid_at.Reads as kid-at-reads
 use Rattle.walks.proofs.moves.down
 use Rattle.walks.proofs.moves.down.Kinds as down-kinds
 use Rattle.walks.proofs.moves.down.Reads as down-reads
-use Rattle.walks.proofs.moves.walk
-use Rattle.walks.proofs.moves.walk.Kinds as walk-kinds
-use Rattle.walks.proofs.moves.walk.Reads as walk-reads
 use Rattle.walks.proofs.glide.glide
 use Rattle.walks.proofs.glide.glide.Kinds as glide-kinds
 use Rattle.walks.proofs.glide.glide.Reads as glide-reads
 use Rattle.walks.proofs.entries.entry_matches
 use Rattle.walks.proofs.entries.entry_matches.Kinds as entry-matches-kinds
 use Rattle.walks.proofs.entries.entry_matches.Reads as entry-matches-reads
-use Rattle.walks.proofs.moves.end_of
-use Rattle.walks.proofs.moves.end_of.Kinds as end-of-kinds
-use Rattle.walks.proofs.moves.end_of.Reads as end-of-reads
+use Rattle.walks.proofs.siblings.smaller
+use Rattle.walks.proofs.siblings.smaller.Kinds as smaller-kinds
+use Rattle.walks.proofs.siblings.smaller.Reads as smaller-reads
+use Rattle.walks.proofs.siblings.larger
+use Rattle.walks.proofs.siblings.larger.Kinds as larger-kinds
+use Rattle.walks.proofs.siblings.larger.Reads as larger-reads
+use Rattle.walks.proofs.siblings.child_within
+use Rattle.walks.proofs.siblings.child_within.Kinds as child-within-kinds
+use Rattle.walks.proofs.siblings.child_within.Reads as child-within-reads
 
 pub is-node-determined : (κs : Lfts 1) (a : ArgsD is_node.signature κs) (r₁ r₂ : ResD is_node.signature κs) (s₁ s₂ : AtExit (endedOf 1 is-node-kinds.ps is-node-kinds.r) κs)
     → is-node-reads.Post κs a r₁ s₁ → is-node-reads.Post κs a r₂ s₂ → r₁ ≡ r₂
@@ -74,10 +77,6 @@ pub down-determined : (κs : Lfts 2) (a : ArgsD down.signature κs) (r₁ r₂ :
     → down-reads.Post κs a r₁ s₁ → down-reads.Post κs a r₂ s₂ → r₁ ≡ r₂
 down-determined κs a r₁ r₂ s₁ s₂ p q = p ∙ sym q
 
-pub walk-determined : (κs : Lfts 3) (a : ArgsD walk.signature κs) (r₁ r₂ : ResD walk.signature κs) (s₁ s₂ : AtExit (endedOf 3 walk-kinds.ps walk-kinds.r) κs)
-    → walk-reads.Post κs a r₁ s₁ → walk-reads.Post κs a r₂ s₂ → r₁ ≡ r₂
-walk-determined κs a r₁ r₂ s₁ s₂ p q = p ∙ sym q
-
 pub glide-determined : (κs : Lfts 3) (a : ArgsD glide.signature κs) (r₁ r₂ : ResD glide.signature κs) (s₁ s₂ : AtExit (endedOf 3 glide-kinds.ps glide-kinds.r) κs)
     → glide-reads.Post κs a r₁ s₁ → glide-reads.Post κs a r₂ s₂ → r₁ ≡ r₂
 glide-determined κs a r₁ r₂ s₁ s₂ p q = p ∙ sym q
@@ -86,6 +85,14 @@ pub entry-matches-determined : (κs : Lfts 0) (a : ArgsD entry_matches.signature
     → entry-matches-reads.Post κs a r₁ s₁ → entry-matches-reads.Post κs a r₂ s₂ → r₁ ≡ r₂
 entry-matches-determined κs a r₁ r₂ s₁ s₂ p q = p ∙ sym q
 
-pub end-of-determined : (κs : Lfts 3) (a : ArgsD end_of.signature κs) (r₁ r₂ : ResD end_of.signature κs) (s₁ s₂ : AtExit (endedOf 3 end-of-kinds.ps end-of-kinds.r) κs)
-    → end-of-reads.Post κs a r₁ s₁ → end-of-reads.Post κs a r₂ s₂ → r₁ ≡ r₂
-end-of-determined κs a r₁ r₂ s₁ s₂ p q = p ∙ sym q
+pub smaller-determined : (κs : Lfts 0) (a : ArgsD smaller.signature κs) (r₁ r₂ : ResD smaller.signature κs) (s₁ s₂ : AtExit (endedOf 0 smaller-kinds.ps smaller-kinds.r) κs)
+    → smaller-reads.Post κs a r₁ s₁ → smaller-reads.Post κs a r₂ s₂ → r₁ ≡ r₂
+smaller-determined κs a r₁ r₂ s₁ s₂ p q = p ∙ sym q
+
+pub larger-determined : (κs : Lfts 0) (a : ArgsD larger.signature κs) (r₁ r₂ : ResD larger.signature κs) (s₁ s₂ : AtExit (endedOf 0 larger-kinds.ps larger-kinds.r) κs)
+    → larger-reads.Post κs a r₁ s₁ → larger-reads.Post κs a r₂ s₂ → r₁ ≡ r₂
+larger-determined κs a r₁ r₂ s₁ s₂ p q = p ∙ sym q
+
+pub child-within-determined : (κs : Lfts 1) (a : ArgsD child_within.signature κs) (r₁ r₂ : ResD child_within.signature κs) (s₁ s₂ : AtExit (endedOf 1 child-within-kinds.ps child-within-kinds.r) κs)
+    → child-within-reads.Post κs a r₁ s₁ → child-within-reads.Post κs a r₂ s₂ → r₁ ≡ r₂
+child-within-determined κs a r₁ r₂ s₁ s₂ p q = p ∙ sym q

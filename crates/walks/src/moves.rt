@@ -1,15 +1,8 @@
-// Going down from a stand, and along a query from the root.
+// One step down from a stand.
 ghost use mathlib.Core.Path.{_≡_};
 ghost use Rattle.keymap.specs.Bits.{bit};
-ghost use Rattle.walks.specs.Rule.{walked};
-ghost use Rattle.walks.specs.Stands.{childOf, downFrom, downAlong, reachedAt};
-ghost use Rattle.walks.specs.Far.{standNear, endedAt};
-ghost use Rattle.walks.specs.declared.moves.Reached.the-variants.{To};
-ghost use lib.ListN.{drop};
+ghost use Rattle.walks.specs.Stands.{downFrom};
 use crate::entries::Child;
-use crate::far::Went;
-use crate::far::go_far;
-use crate::far::stand_near;
 use crate::siblings::child_within;
 use crate::stands::Stand;
 use crate::stands::kid_at;
@@ -18,17 +11,6 @@ use crate::stands::kids;
 pub enum Reached {
     To(Stand),
     NoPath,
-}
-
-// Where a walk ended: at a stand, or at a node whose zero is near, as whole words leave it.
-enum Ended {
-    Near {
-        node: usize,
-        kept: usize,
-        left: usize,
-    },
-    At(Stand),
-    Nowhere,
 }
 
 // One step down: the child with a label.
@@ -44,106 +26,5 @@ pub fn down(labels: &[u16], words: &[u64], len: usize, s: Stand, label: u8) -> R
     match child_within(labels, s.node, before, before + k.count, label) {
         Child::Node(m) => Reached::To(kid_at(words, len, s.node, k.next, m)),
         Child::Absent => Reached::NoPath,
-    }
-}
-
-// Down along a query from its step `steps` on, from the node that whole words left.
-fn go_on(
-    labels: &[u16],
-    words: &[u64],
-    len: usize,
-    query: &[u8],
-    node: usize,
-    kept: usize,
-    left: usize,
-    steps: usize,
-) -> Reached
-    ensures { λ r.
-        ⌜
-        r
-        ≡ downAlong (now (labels .entry)) (bit (now (words .entry))) len (drop steps (now (query .entry)))
-        (To (standNear (bit (now (words .entry))) len node kept left))
-        ⌝ }
-{
-    let mut s = stand_near(words, len, node, kept, left);
-    let mut j = steps;
-    while j < query.len() {
-        let Reached::To(t) = down(labels, words, len, s, query[j]) else {
-            return Reached::NoPath;
-        };
-        s = t;
-        j += 1;
-    }
-    Reached::To(s)
-}
-
-// From node 1 along a query: whole words first. Where these reach the query's end, the node's zero is not looked for.
-fn reach_end(labels: &[u16], words: &[u64], len: usize, query: &[u8]) -> Ended
-    ensures { λ r.
-        ⌜
-        endedAt (bit (now (words .entry))) len r
-        ≡ reachedAt (bit (now (words .entry))) len
-        (walked (now (labels .entry)) (bit (now (words .entry))) len (now (query .entry)))
-        ⌝ }
-{
-    let Went::Gone {
-        node,
-        steps,
-        kept,
-        left,
-    } = go_far(labels, words, len, query)
-    else {
-        return Ended::Nowhere;
-    };
-    if query.len() <= steps {
-        return Ended::Near { node, kept, left };
-    }
-    match go_on(labels, words, len, query, node, kept, left, steps) {
-        Reached::To(t) => Ended::At(t),
-        Reached::NoPath => Ended::Nowhere,
-    }
-}
-
-// The node at the end of a query, walked from node 1.
-pub fn end_of(labels: &[u16], words: &[u64], len: usize, query: &[u8]) -> Child
-    ensures { λ r.
-        ⌜
-        r
-        ≡ childOf (walked (now (labels .entry)) (bit (now (words .entry))) len (now (query .entry)))
-        ⌝ }
-{
-    match reach_end(labels, words, len, query) {
-        Ended::Near {
-            node,
-            kept: _,
-            left: _,
-        } => Child::Node(node),
-        Ended::At(s) => Child::Node(s.node),
-        Ended::Nowhere => Child::Absent,
-    }
-}
-
-// The stand at the end of a query, walked from node 1.
-pub fn walk(labels: &[u16], words: &[u64], len: usize, query: &[u8]) -> Reached
-    ensures { λ r.
-        ⌜
-        r
-        ≡ reachedAt (bit (now (words .entry))) len
-        (walked (now (labels .entry)) (bit (now (words .entry))) len (now (query .entry)))
-        ⌝ }
-{
-    match reach_end(labels, words, len, query) {
-        Ended::Near { node, kept, left } => go_on(
-            labels,
-            words,
-            len,
-            query,
-            node,
-            kept,
-            left,
-            query.len(),
-        ),
-        Ended::At(s) => Reached::To(s),
-        Ended::Nowhere => Reached::NoPath,
     }
 }

@@ -1,5 +1,5 @@
 // Stands and their children, in the first `len` bits. A stand carries the place of its node's zero, so that a step down goes on from there:
-// only `stand_at` looks from bit 0 on.
+// of these calls only `stand_at`, for a node that is given by its number, looks from bit 0 on.
 ghost use mathlib.Core.Path.{_≡_};
 ghost use Rattle.keymap.specs.Bits.{bit};
 ghost use Rattle.louds.specs.Nodes.{orEnd};

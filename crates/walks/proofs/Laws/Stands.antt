@@ -4,7 +4,7 @@
 --     kidsFrom-none, kidsFrom-some    the children of a stand, by that test
 --     kids-numbered                   their numbers
 --     kids-rule                       they are the node's
---     stand-near                        the stand at a node, from a place on that has so many zeros before it
+--     zero-near                       a zero from a place on, by the zeros before that
 --     kid-rule                        the stand at a child
 --     down-rule, along-rule           one step down, and all steps of a query
 --     downAlong-next, -over, -lost    these steps in turn

@@ -1,5 +1,5 @@
 -- `walks::entries::entry_matches` meets its contract: without the mark an entry is a label exactly if it is below 512 and has that label (`entry-rule`). Assumes nothing.
-use Rattle.walks.proofs.Laws.Far.{entry-rule}
+use Rattle.walks.proofs.Laws.Siblings.{entry-rule}
 use Rattle.walks.proofs.entries.entry_matches.Statement.{statement}
 use Rattle.walks.proofs.entries.entry_matches.Tie as tie
 

@@ -5,7 +5,7 @@ use native.Mathlib.Omega.{arith}
 use borrow.Author.Needs.{needs}
 use Rattle.walks.specs.Rule.{lowestBy}
 use Rattle.walks.specs.Stands.{childOf}
-use Rattle.walks.proofs.Laws.Far.{among-start, among-here, among-past, among-end}
+use Rattle.walks.proofs.Laws.Siblings.{among-start, among-here, among-past, among-end}
 use Rattle.walks.proofs.siblings.child_within.Statement.{statement}
 use Rattle.walks.proofs.siblings.child_within.Tie as tie
 

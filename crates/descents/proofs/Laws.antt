@@ -1,0 +1,2 @@
+-- The laws of the definitions. Assumes nothing.
+pub mod Far

@@ -1,0 +1,4 @@
+pub mod Laws
+pub mod AsksNothing
+pub mod Determined
+pub mod Ties

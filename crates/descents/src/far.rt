@@ -40,7 +40,8 @@ pub struct Kept {
 
 // How far whole words took a walk.
 pub enum Went {
-    // At a node after some steps: the word kept is word kept-1, and from its start on the node's zero is the `left`-th. Where `kept` is 0 there is none, and it is so from bit 0 on.
+    // At a node after some steps: the word kept is word kept-1, and from its start on the node's zero is the `left`-th.
+    // Where `kept` is 0 there is none, and the zero is the `left`-th from bit 0 on.
     Gone {
         node: usize,
         steps: usize,

@@ -4,7 +4,7 @@ use mathlib.Core.Path.{_≡_}
 use denote.Ref.{now}
 use Rattle.keymap.specs.Contract.{Tells}
 use Rattle.catalogue.specs.Reading.{nothingRead, nextAt, takeRead, whatRead}
-use Rattle.catalogue.specs.Rooms.{Written}
+use Rattle.catalogue.specs.Rooms.{RoomsLeft}
 use Rattle.catalogue.proofs.answer.Kinds as answer-kinds
 use Rattle.catalogue.proofs.answer.Reads as answer-reads
 use Rattle.catalogue.proofs.reading.begin.Kinds as begin-kinds
@@ -16,7 +16,7 @@ use Rattle.catalogue.proofs.reading.take_read.Reads as take-read-reads
 
 -- the rooms before the call, and the number of bytes written, the buffer they stand in and the rooms after it
 pub answer-says : Tells 7 answer-kinds.ps answer-kinds.r answer-reads.Post (λ κs a r s.
-    Written (whatRead (a .0) (now (a .1 .0)))
+    RoomsLeft (whatRead (a .0) (now (a .1 .0)))
     (now (a .1 .1 .0)) (now (a .1 .1 .1 .0)) (now (a .1 .1 .1 .1 .0)) (now (a .1 .1 .1 .1 .1 .0)) (now (a .1 .1 .1 .1 .1 .1 .0)) (now (a .1 .1 .1 .1 .1 .1 .1 .0))
     r
     (now (s .1 .1 .1 .1 .1 .1 .1 .0)) (now (s .1 .1 .0)) (now (s .1 .1 .1 .0)) (now (s .1 .1 .1 .1 .0)) (now (s .1 .1 .1 .1 .1 .0)) (now (s .1 .1 .1 .1 .1 .1 .0)))

@@ -13,7 +13,7 @@ use mathlib.Core.Bool.{cond}
 use mathlib.Core.List.{List, [], _∷_, _++_}
 use mathlib.Core.Option.{Option, none, some}
 use Rattle.keymap.specs.Map.{Entry}
-use Rattle.keymap.specs.Refusals.{Refusal, refusalNumber}
+use Rattle.keymap.specs.Refusals.{Refusal, refuses}
 use Rattle.records.specs.Words.{Pool}
 use Rattle.records.specs.Sound.{Sound}
 use Rattle.records.specs.Meaning.{poolMap}
@@ -30,7 +30,7 @@ saidFilled Filled.Done = 0 ∷ []
 saidFilled (Filled.Refused number line) = number ∷ line ∷ []
 
 abbrev pub lineSays : Pool → Option Entry → List ℕ
-lineSays p none = refusalNumber Refusal.BadLine ∷ []
+lineSays p none = refuses Refusal.BadLine
 lineSays p (some e) = pushSays p (e .0)
 
 abbrev pub linePool : Pool → Option Entry → Pool

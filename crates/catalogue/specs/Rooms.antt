@@ -2,7 +2,7 @@
 --
 --     programPool    the pool: a file that is too long or could not be read leaves it as it was
 --     builtPool      the pool that is built: that of a text whose lines are all pushed; else no words, of which no build writes anything
---     Written        what a call leaves: the bytes written, and each room
+--     RoomsLeft      what a call leaves: the bytes written, and each room
 -- Assumes nothing.
 use mathlib.Core.Path.{_≡_}
 use mathlib.Core.Bool.{cond}
@@ -29,8 +29,8 @@ builtPool none p = []
 builtPool (some text) p = cond (accepted (textSays programCapacity text)) (fillPool p text) []
 
 -- the number of bytes, the buffer they are put into, the pool and the buffers of the build
-abbrev pub Written : Option (List ℕ) → (p ls vs ws qs out₀ : List ℕ) → ℕ → (out q ls₁ vs₁ ws₁ qs₁ : List ℕ) → Type 0
-Written w p ls vs ws qs out₀ r out q ls₁ vs₁ ws₁ qs₁ =
+abbrev pub RoomsLeft : Option (List ℕ) → (p ls vs ws qs out₀ : List ℕ) → ℕ → (out q ls₁ vs₁ ws₁ qs₁ : List ℕ) → Type 0
+RoomsLeft w p ls vs ws qs out₀ r out q ls₁ vs₁ ws₁ qs₁ =
     (r ≡ length (programText w)) ×
     ((out ≡ over (programText w) out₀) ×
     ((q ≡ programPool w p) ×

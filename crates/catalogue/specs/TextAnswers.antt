@@ -16,17 +16,17 @@ use mathlib.Core.Option.{Option, none, some}
 use lib.ListN.{length}
 use lib.Dec.{ltb}
 use Rattle.keymap.specs.Map.{Entry, Map, insert, insertAll}
-use Rattle.keymap.specs.Refusals.{Refusal, refusalNumber}
+use Rattle.keymap.specs.Refusals.{Refusal, refuses}
 use Rattle.pool.specs.Answers.{accepted}
-use Rattle.pool.specs.History.{Call, mapSays}
+use Rattle.pool.specs.History.{PoolCall, mapSays}
 use Rattle.lines.specs.TabLine.{tabEntry}
 use Rattle.lines.specs.Text.{entryLines}
 use Rattle.catalogue.specs.Limits.{fileLimit}
 
 -- where there is room for `most` records
 abbrev pub mapLineSays : ℕ → Map → Option Entry → List ℕ
-mapLineSays most m none = refusalNumber Refusal.BadLine ∷ []
-mapLineSays most m (some e) = mapSays most m (Call.push (e .0) (e .1))
+mapLineSays most m none = refuses Refusal.BadLine
+mapLineSays most m (some e) = mapSays most m (PoolCall.push (e .0) (e .1))
 
 abbrev pub mapLineAfter : Map → Option Entry → Map
 mapLineAfter m none = m

@@ -19,8 +19,8 @@ use Rattle.catalogue.specs.TextAnswers.{entriesIn, AllEntries, textMap}
 
 pub data Cause (most : ℕ) (m : Map) (l : List ℕ) (number : ℕ) : Type 0 where
   bad : tabEntry l ≡ none → number ≡ refusalNumber Refusal.BadLine → Cause most m l number
-  empty : (e : Entry) → tabEntry l ≡ some e → e .0 ≡ [] → number ≡ refusalNumber Refusal.EmptyKey → Cause most m l number
-  full : (e : Entry) → tabEntry l ≡ some e → ¬ (e .0 ≡ []) → most < length (prefixes (insert (e .0) (e .1) m)) → number ≡ refusalNumber Refusal.NoRoom
+  emptyKey : (e : Entry) → tabEntry l ≡ some e → e .0 ≡ [] → number ≡ refusalNumber Refusal.EmptyKey → Cause most m l number
+  noRoom : (e : Entry) → tabEntry l ≡ some e → ¬ (e .0 ≡ []) → most < length (prefixes (insert (e .0) (e .1) m)) → number ≡ refusalNumber Refusal.NoRoom
       → Cause most m l number
 
 pub record Whole (most : ℕ) (text : List ℕ) : Type 0 where

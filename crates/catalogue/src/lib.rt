@@ -8,7 +8,7 @@ pub mod reading;
 ghost use mathlib.Core.Path.{_≡_};
 ghost use lib.ListN.{length};
 ghost use Rattle.keymap.specs.Buffers.{over};
-ghost use Rattle.image.specs.Build.{buildLabels, buildValues, buildWords, buildScratch};
+ghost use Rattle.image.specs.Build.{buildLabels, buildValues, buildWords, buildScratch, ofLent};
 ghost use Rattle.catalogue.specs.Reading.{whatRead};
 ghost use Rattle.catalogue.specs.Program.{programText};
 ghost use Rattle.catalogue.specs.Rooms.{programPool, builtPool};
@@ -52,10 +52,10 @@ pub fn answer(
     ensures answer { λ r. ⌜ r ≡ length (programText (whatRead reading (now (text .entry)))) ⌝ }
     ensures out { λ _. ⌜ now (out .exit) ≡ over (programText (whatRead reading (now (text .entry)))) (now (out .entry)) ⌝ }
     ensures pool { λ _. ⌜ now (pool .exit) ≡ programPool (whatRead reading (now (text .entry))) (now (pool .entry)) ⌝ }
-    ensures labels { λ _. ⌜ now (labels .exit) ≡ buildLabels (builtPool (whatRead reading (now (text .entry))) (now (pool .entry))) (now (labels .entry)) (now (values .entry)) (now (words .entry)) (now (scratch .entry)) ⌝ }
-    ensures values { λ _. ⌜ now (values .exit) ≡ buildValues (builtPool (whatRead reading (now (text .entry))) (now (pool .entry))) (now (labels .entry)) (now (values .entry)) (now (words .entry)) (now (scratch .entry)) ⌝ }
-    ensures words { λ _. ⌜ now (words .exit) ≡ buildWords (builtPool (whatRead reading (now (text .entry))) (now (pool .entry))) (now (labels .entry)) (now (values .entry)) (now (words .entry)) (now (scratch .entry)) ⌝ }
-    ensures scratch { λ _. ⌜ now (scratch .exit) ≡ buildScratch (builtPool (whatRead reading (now (text .entry))) (now (pool .entry))) (now (labels .entry)) (now (values .entry)) (now (words .entry)) (now (scratch .entry)) ⌝ }
+    ensures labels { λ _. ⌜ now (labels .exit) ≡ ofLent (buildLabels (builtPool (whatRead reading (now (text .entry))) (now (pool .entry)))) labels values words scratch ⌝ }
+    ensures values { λ _. ⌜ now (values .exit) ≡ ofLent (buildValues (builtPool (whatRead reading (now (text .entry))) (now (pool .entry)))) labels values words scratch ⌝ }
+    ensures words { λ _. ⌜ now (words .exit) ≡ ofLent (buildWords (builtPool (whatRead reading (now (text .entry))) (now (pool .entry)))) labels values words scratch ⌝ }
+    ensures scratch { λ _. ⌜ now (scratch .exit) ≡ ofLent (buildScratch (builtPool (whatRead reading (now (text .entry))) (now (pool .entry)))) labels values words scratch ⌝ }
 {
     if !reading.whole {
         return put_text(b"no file\n", 0, out);

@@ -7,8 +7,8 @@ ghost use Rattle.keymap.specs.Buffers.{over};
 ghost use Rattle.keymap.specs.Decode.{imageMap};
 ghost use Rattle.records.specs.Meaning.{poolMap};
 ghost use Rattle.pool.specs.Answers.{accepted};
-ghost use Rattle.image.specs.Build.{buildSays, buildLabels, buildValues, buildWords, buildScratch};
-ghost use Rattle.image.specs.Meaning.{lent, MapImage};
+ghost use Rattle.image.specs.Build.{buildSays, buildLabels, buildValues, buildWords, buildScratch, ofLent};
+ghost use Rattle.image.specs.Meaning.{imageIn, lentImage, MapImage};
 ghost use Rattle.lines.specs.Writing.{mapText};
 use crate::putting::put_value;
 use climbs::answers::Spelled;
@@ -32,10 +32,10 @@ pub fn list_pool(
     requires { ⌜ length (mapText (poolMap (now pool))) ≤ length (now out) ⌝ }
     ensures answer { λ r. ⌜ r ≡ length (mapText (poolMap (now (pool .entry)))) ⌝ }
     ensures out { λ _. ⌜ now (out .exit) ≡ over (mapText (poolMap (now (pool .entry)))) (now (out .entry)) ⌝ }
-    ensures labels { λ _. ⌜ now (labels .exit) ≡ buildLabels (now (pool .entry)) (now (labels .entry)) (now (values .entry)) (now (words .entry)) (now (scratch .entry)) ⌝ }
-    ensures values { λ _. ⌜ now (values .exit) ≡ buildValues (now (pool .entry)) (now (labels .entry)) (now (values .entry)) (now (words .entry)) (now (scratch .entry)) ⌝ }
-    ensures words { λ _. ⌜ now (words .exit) ≡ buildWords (now (pool .entry)) (now (labels .entry)) (now (values .entry)) (now (words .entry)) (now (scratch .entry)) ⌝ }
-    ensures scratch { λ _. ⌜ now (scratch .exit) ≡ buildScratch (now (pool .entry)) (now (labels .entry)) (now (values .entry)) (now (words .entry)) (now (scratch .entry)) ⌝ }
+    ensures labels { λ _. ⌜ now (labels .exit) ≡ ofLent (buildLabels (now (pool .entry))) labels values words scratch ⌝ }
+    ensures values { λ _. ⌜ now (values .exit) ≡ ofLent (buildValues (now (pool .entry))) labels values words scratch ⌝ }
+    ensures words { λ _. ⌜ now (words .exit) ≡ ofLent (buildWords (now (pool .entry))) labels values words scratch ⌝ }
+    ensures scratch { λ _. ⌜ now (scratch .exit) ≡ ofLent (buildScratch (now (pool .entry))) labels values words scratch ⌝ }
 {
     let Built::Nodes(n) = image::build(pool, labels, values, words, scratch) else {
         return 0;
@@ -52,10 +52,10 @@ pub fn list_pool(
 
 // Puts the listing of an image's map at the start of a buffer that holds it, each key straight behind the line before; answers its length.
 fn list_image(labels: &[u16], values: &[u32], words: &[u64], out: &mut [u8]) -> usize
-    requires { ⌜ MapImage (lent (now labels) (now values) (now words)) ⌝ }
-    requires { ⌜ length (mapText (imageMap (lent (now labels) (now values) (now words)))) ≤ length (now out) ⌝ }
-    ensures answer { λ r. ⌜ r ≡ length (mapText (imageMap (lent (now (labels .entry)) (now (values .entry)) (now (words .entry))))) ⌝ }
-    ensures out { λ _. ⌜ now (out .exit) ≡ over (mapText (imageMap (lent (now (labels .entry)) (now (values .entry)) (now (words .entry))))) (now (out .entry)) ⌝ }
+    requires { ⌜ MapImage (imageIn labels values words) ⌝ }
+    requires { ⌜ length (mapText (imageMap (imageIn labels values words))) ≤ length (now out) ⌝ }
+    ensures answer { λ r. ⌜ r ≡ length (mapText (imageMap (lentImage labels values words))) ⌝ }
+    ensures out { λ _. ⌜ now (out .exit) ≡ over (mapText (imageMap (lentImage labels values words))) (now (out .entry)) ⌝ }
 {
     let Started::At(start) = predictive_search(labels, values, words, b"") else {
         return 0;

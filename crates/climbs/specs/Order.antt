@@ -7,7 +7,7 @@
 --     climbBy       the next sibling of the nearest that has one, of a node and its ancestors below a top
 --     advanceBy     the next node below a top
 --     nextBy        the next node below a top that has a value, and the value
---     Under         a node of a map is at or below a top
+--     UnderTop      a node of a map is at or below a top
 --     givenBy       an entry of the map as its node's number and value
 -- Assumes nothing.
 use Prim.Native.Nat.{ℕ, zero, suc, _+_, _-_}
@@ -84,7 +84,7 @@ abbrev pub givenOf : Option (ℕ × ℕ) → Given
 givenOf none = gives.Nothing
 givenOf (some e) = gives.Entry (e .0) (e .1)
 
-pub record Under (m : Map) (top node : ℕ) : Type 0 where
+pub record UnderTop (m : Map) (top node : ℕ) : Type 0 where
   pub top-inside : IsNode m top
   pub inside : IsNode m node
   pub begins : PrefixOf (pathOf m top) (pathOf m node)

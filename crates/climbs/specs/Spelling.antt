@@ -14,7 +14,7 @@ use lib.ListN.{length, getD, drop, set}
 use lib.Dec.{leb}
 use Rattle.keymap.specs.Key.{Key}
 use Rattle.keymap.specs.Label.{labelIn}
-use Rattle.keymap.specs.Refusals.{refusalNumber, NotAnImage, BadPlace, KeyRoom}
+use Rattle.keymap.specs.Refusals.{refuses, NotAnImage, BadPlace, KeyRoom}
 use Rattle.climbs.specs.Perches.{parentBy}
 use Rattle.climbs.specs.declared.answers.Spelled.{Spelled}
 use Rattle.climbs.specs.declared.answers.Spelled.the-variants as spelled
@@ -45,6 +45,6 @@ spelledTo n p out = lastBytes n p ++ drop n out
 -- a refusal is its number alone; else 0, and how many bytes were written
 abbrev pub saidSpelled : Spelled → List ℕ
 saidSpelled (spelled.Wrote n) = 0 ∷ n ∷ []
-saidSpelled spelled.NotAnImage = refusalNumber NotAnImage ∷ []
-saidSpelled spelled.BadPlace = refusalNumber BadPlace ∷ []
-saidSpelled spelled.KeyRoom = refusalNumber KeyRoom ∷ []
+saidSpelled spelled.NotAnImage = refuses NotAnImage
+saidSpelled spelled.BadPlace = refuses BadPlace
+saidSpelled spelled.KeyRoom = refuses KeyRoom

@@ -6,7 +6,7 @@ use Rattle.keymap.specs.Contract.{Tells}
 use mathlib.Core.Logic.{_↔_}
 use mathlib.Core.List.{[], _∷_}
 use Rattle.image.specs.Accept.{OfMap}
-use Rattle.image.specs.Meaning.{lent}
+use Rattle.image.specs.Meaning.{imageIn}
 use Rattle.image.specs.AcceptTest.{lengthsFit, imageTest}
 use Rattle.image.specs.AcceptAnswer.{saidChecked, acceptSays}
 use Rattle.image.specs.Build.{saidBuilt, buildSays, buildLabels, buildValues, buildWords, buildScratch}
@@ -19,13 +19,13 @@ use Rattle.image.proofs.accept.Reads as accept-reads
 use Rattle.image.proofs.build.Kinds as build-kinds
 use Rattle.image.proofs.build.Reads as build-reads
 
-pub is-image-says : Tells 3 is-image-kinds.ps is-image-kinds.r is-image-reads.Post (λ κs a r s. r ≡ imageTest (lent (now (a .0)) (now (a .1 .0)) (now (a .1 .1 .0))))
+pub is-image-says : Tells 3 is-image-kinds.ps is-image-kinds.r is-image-reads.Post (λ κs a r s. r ≡ imageTest (imageIn (a .0) (a .1 .0) (a .1 .1 .0)))
 is-image-says κs a r s p = p
 
-pub lengths-fit-says : Tells 3 lengths-fit-kinds.ps lengths-fit-kinds.r lengths-fit-reads.Post (λ κs a r s. r ≡ lengthsFit (lent (now (a .0)) (now (a .1 .0)) (now (a .1 .1 .0))))
+pub lengths-fit-says : Tells 3 lengths-fit-kinds.ps lengths-fit-kinds.r lengths-fit-reads.Post (λ κs a r s. r ≡ lengthsFit (imageIn (a .0) (a .1 .0) (a .1 .1 .0)))
 lengths-fit-says κs a r s p = p
 
-pub accept-says : Tells 3 accept-kinds.ps accept-kinds.r accept-reads.Post (λ κs a r s. (saidChecked r ≡ acceptSays (lent (now (a .0)) (now (a .1 .0)) (now (a .1 .1 .0)))) × ((saidChecked r ≡ 0 ∷ []) ↔ OfMap (lent (now (a .0)) (now (a .1 .0)) (now (a .1 .1 .0)))))
+pub accept-says : Tells 3 accept-kinds.ps accept-kinds.r accept-reads.Post (λ κs a r s. (saidChecked r ≡ acceptSays (imageIn (a .0) (a .1 .0) (a .1 .1 .0))) × ((saidChecked r ≡ 0 ∷ []) ↔ OfMap (imageIn (a .0) (a .1 .0) (a .1 .1 .0))))
 accept-says κs a r s p = p
 
 pub build-says : Tells 5 build-kinds.ps build-kinds.r build-reads.Post (λ κs a r s.

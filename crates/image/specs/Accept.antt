@@ -2,12 +2,12 @@
 -- `Accepted` is the list that follows there, a field for each condition and the condition's words over it.
 --
 --     entries       n: "The number n is the length of the label slice"
---     entryOf       the label entry of a node: "node m of 2 or more has entry m-2"
+--     nodeEntry     the label entry of a node: "node m of 2 or more has entry m-2"
 --     parentIn      the number of a node's parent, as `louds` finds it
 --     kidsIn        the numbers of its children
 --     Accepted      the conditions
 --     OfMap         "some map with nonempty keys has it", and the map is no larger than an image can be
---     Lent          what any lent slices hold: words of 64 bits and values of 32
+--     LentSlices    what any lent slices hold: words of 64 bits and values of 32
 -- Assumes nothing.
 use mathlib.Core.Path.{_≡_}
 use Prim.Native.Nat.{ℕ, _+_, _-_, _*_, _^_, _≤_, _<_}
@@ -28,11 +28,11 @@ use Rattle.louds.specs.Nodes.{childrenOf, parentOf}
 abbrev pub entries : Image → ℕ
 entries i = length (i .labels)
 
-abbrev pub entryOf : Image → ℕ → ℕ
-entryOf i m = getD (i .labels) (m - 2) 0
+abbrev pub nodeEntry : Image → ℕ → ℕ
+nodeEntry i m = getD (i .labels) (m - 2) 0
 
-abbrev pub valueOf : Image → ℕ → ℕ
-valueOf i m = getD (i .values) (m - 2) 0
+abbrev pub nodeValue : Image → ℕ → ℕ
+nodeValue i m = getD (i .values) (m - 2) 0
 
 abbrev pub parentIn : Image → ℕ → Up
 parentIn i m = parentOf (bit (i .words)) (bitsFor (entries i)) m
@@ -69,11 +69,11 @@ pub record Accepted (i : Image) : Type 0 where
   -- "every node m of 2 or more has its parent's number from 1 to m-1"
   pub parents : (m : ℕ) → 2 ≤ m → m ≤ entries i + 1 → ParentBelow i m
   -- "sibling labels strictly rise"
-  pub rise : (l m : ℕ) → 2 ≤ l → l < m → m ≤ entries i + 1 → parentIn i l ≡ parentIn i m → labelIn (entryOf i l) < labelIn (entryOf i m)
+  pub rise : (l m : ℕ) → 2 ≤ l → l < m → m ≤ entries i + 1 → parentIn i l ≡ parentIn i m → labelIn (nodeEntry i l) < labelIn (nodeEntry i m)
   -- "entries are below 512"
-  pub small : (m : ℕ) → 2 ≤ m → m ≤ entries i + 1 → entryOf i m < 2 * mark
+  pub small : (m : ℕ) → 2 ≤ m → m ≤ entries i + 1 → nodeEntry i m < 2 * mark
   -- "unmarked entries have value 0 and a child"
-  pub plain : (m : ℕ) → 2 ≤ m → m ≤ entries i + 1 → entryOf i m < mark → (valueOf i m ≡ 0) × HasChild i m
+  pub plain : (m : ℕ) → 2 ≤ m → m ≤ entries i + 1 → nodeEntry i m < mark → (nodeValue i m ≡ 0) × HasChild i m
 
 pub record OfMap (i : Image) : Type 0 where
   pub map : Map
@@ -81,6 +81,6 @@ pub record OfMap (i : Image) : Type 0 where
   pub few : length (prefixes map) ≤ mostRecords
   pub whole : image map ≡ i
 
-pub record Lent (i : Image) : Type 0 where
+pub record LentSlices (i : Image) : Type 0 where
   pub words-wide : (w : ℕ) → getD (i .words) w 0 < 2 ^ wordBits
   pub values-wide : (e : ℕ) → getD (i .values) e 0 < valueLimit

@@ -3,18 +3,18 @@
 use Prim.Native.Nat.{ℕ}
 use mathlib.Core.Bool.{cond}
 use mathlib.Core.List.{List, [], _∷_}
-use Rattle.keymap.specs.Refusals.{Refusal, refusalNumber}
+use Rattle.keymap.specs.Refusals.{Refusal, refuses}
 use Rattle.keymap.specs.Image.{Image}
 use Rattle.image.specs.AcceptTest.{imageTest}
 use Rattle.image.specs.declared.answers.Checked.{Checked}
 
 abbrev pub saidChecked : Checked → List ℕ
 saidChecked Checked.Accepted = 0 ∷ []
-saidChecked Checked.NotAnImage = refusalNumber Refusal.NotAnImage ∷ []
+saidChecked Checked.NotAnImage = refuses Refusal.NotAnImage
 
 -- what a call says of an image that some map has, and refusal 6 of any other
 abbrev pub onImage : Image → List ℕ → List ℕ
-onImage i says = cond (imageTest i) says (refusalNumber Refusal.NotAnImage ∷ [])
+onImage i says = cond (imageTest i) says (refuses Refusal.NotAnImage)
 
 unfoldable pub acceptSays : Image → List ℕ
 acceptSays i = onImage i (0 ∷ [])

@@ -3,6 +3,7 @@
 --     buffersFit       no buffer is shorter than needed
 --     buildSays        what build answers
 --     buildLabels, ..  what it leaves of each buffer: a refusal leaves all as they were
+--     ofLent           a definition of the four, of the buffers that a contract names
 --     CanQueue, ..     what the loops ask
 -- Assumes nothing.
 use Prim.Native.Nat.{ℕ, _+_, _^_, _≤_, _<_}
@@ -11,7 +12,9 @@ use mathlib.Core.Bool.{Bool, cond, _&&_}
 use mathlib.Core.List.{List, [], _∷_}
 use lib.ListN.{length, getD}
 use lib.Dec.{leb, ltb}
-use Rattle.keymap.specs.Refusals.{Refusal, refusalNumber}
+use denote.Ref.{RefT, now}
+use denote.Triple.Both.{Both}
+use Rattle.keymap.specs.Refusals.{Refusal, refuses}
 use Rattle.keymap.specs.Bits.{wordsFor}
 use Rattle.keymap.specs.Image.{bitsFor}
 use Rattle.records.specs.Words.{Pool, recordWords, entry, firstChild, nextSibling, usedCount}
@@ -24,9 +27,9 @@ use Rattle.image.specs.LevelOrder.{childRecords, levelRecords, poolLabel
 
 abbrev pub saidBuilt : Built → List ℕ
 saidBuilt (Built.Nodes n) = 0 ∷ n ∷ []
-saidBuilt Built.PoolTooSmall = refusalNumber Refusal.PoolTooSmall ∷ []
-saidBuilt Built.NotAPool = refusalNumber Refusal.NotAPool ∷ []
-saidBuilt Built.OutTooSmall = refusalNumber Refusal.OutTooSmall ∷ []
+saidBuilt Built.PoolTooSmall = refuses Refusal.PoolTooSmall
+saidBuilt Built.NotAPool = refuses Refusal.NotAPool
+saidBuilt Built.OutTooSmall = refuses Refusal.OutTooSmall
 
 -- n nodes besides the root, and the lengths of the label entries, values, words and scratch
 unfoldable pub buffersFit : (n labels values words scratch : ℕ) → Bool
@@ -34,12 +37,12 @@ buffersFit n labels values words scratch = leb n labels && (leb n values && (leb
 
 -- n nodes where the buffers fit, and OutTooSmall where they do not
 unfoldable pub fitSays : (n labels values words scratch : ℕ) → List ℕ
-fitSays n labels values words scratch = cond (buffersFit n labels values words scratch) (0 ∷ n ∷ []) (refusalNumber Refusal.OutTooSmall ∷ [])
+fitSays n labels values words scratch = cond (buffersFit n labels values words scratch) (0 ∷ n ∷ []) (refuses Refusal.OutTooSmall)
 
 unfoldable pub buildSays : Pool → (labels values words scratch : List ℕ) → List ℕ
 buildSays p ls vs ws qs =
-    cond (ltb (length p) recordWords) (refusalNumber Refusal.PoolTooSmall ∷ [])
-    (cond (soundTest p) (fitSays (usedCount p) (length ls) (length vs) (length ws) (length qs)) (refusalNumber Refusal.NotAPool ∷ []))
+    cond (ltb (length p) recordWords) (refuses Refusal.PoolTooSmall)
+    (cond (soundTest p) (fitSays (usedCount p) (length ls) (length vs) (length ws) (length qs)) (refuses Refusal.NotAPool))
 
 unfoldable pub buildLabels : Pool → (labels values words scratch : List ℕ) → List ℕ
 buildLabels p ls vs ws qs = cond (accepted (buildSays p ls vs ws qs)) (over (poolLabels p) ls) ls
@@ -52,6 +55,13 @@ buildWords p ls vs ws qs = cond (accepted (buildSays p ls vs ws qs)) (over (pool
 
 unfoldable pub buildScratch : Pool → (labels values words scratch : List ℕ) → List ℕ
 buildScratch p ls vs ws qs = cond (accepted (buildSays p ls vs ws qs)) (over (levelRecords p) qs) qs
+
+-- one of these, of the four buffers as they were lent to a call
+abbrev pub ofLent : {W X Y Z : Type 0}
+    → ((labels values words scratch : List ℕ) → List ℕ)
+    → Both (RefT (List ℕ)) W → Both (RefT (List ℕ)) X → Both (RefT (List ℕ)) Y → Both (RefT (List ℕ)) Z → List ℕ
+ofLent f labels values words scratch =
+    f (now (labels .entry)) (now (values .entry)) (now (words .entry)) (now (scratch .entry))
 
 -- the chain of record c ends, and the queue has room for it behind its first `tail` entries
 pub record CanQueue (p : Pool) (c at : ℕ) (queue : List ℕ) (tail : ℕ) : Type 0 where

@@ -3,8 +3,8 @@
 --
 --     Call               a call on the pool alone, or a build
 --     poolCalls          the calls on the pool alone
---     runSays            what the calls answer in turn
---     mapRunSays         what they answer by the map
+--     historySays        what the calls answer in turn
+--     mapHistorySays     what they answer by the map
 -- Assumes nothing.
 use Prim.Native.Nat.{ℕ}
 use mathlib.Core.List.{List, [], _∷_}
@@ -16,22 +16,22 @@ use Rattle.pool.specs.History as history
 use Rattle.image.specs.Build.{fitSays, buildSays}
 
 pub data Call : Type 0 where
-  onPool : history.Call → Call
+  onPool : history.PoolCall → Call
   build : List ℕ → List ℕ → List ℕ → List ℕ → Call  -- label entries, values, words, scratch
 
-unfoldable pub poolCalls : List Call → List history.Call
+unfoldable pub poolCalls : List Call → List history.PoolCall
 poolCalls [] = []
 poolCalls (onPool c ∷ cs) = c ∷ poolCalls cs
 poolCalls (build ls vs ws qs ∷ cs) = poolCalls cs
 
-unfoldable pub runSays : Pool → List Call → List (List ℕ)
-runSays p [] = []
-runSays p (onPool c ∷ cs) = history.callSays p c ∷ runSays (history.callPool p c) cs
-runSays p (build ls vs ws qs ∷ cs) = buildSays p ls vs ws qs ∷ runSays p cs
+unfoldable pub historySays : Pool → List Call → List (List ℕ)
+historySays p [] = []
+historySays p (onPool c ∷ cs) = history.callSays p c ∷ historySays (history.callPool p c) cs
+historySays p (build ls vs ws qs ∷ cs) = buildSays p ls vs ws qs ∷ historySays p cs
 
 -- where there is room for `most` records
-unfoldable pub mapRunSays : ℕ → Map → List Call → List (List ℕ)
-mapRunSays most m [] = []
-mapRunSays most m (onPool c ∷ cs) = history.mapSays most m c ∷ mapRunSays most (history.mapAfter most m c) cs
-mapRunSays most m (build ls vs ws qs ∷ cs) =
-    fitSays (length (prefixes m)) (length ls) (length vs) (length ws) (length qs) ∷ mapRunSays most m cs
+unfoldable pub mapHistorySays : ℕ → Map → List Call → List (List ℕ)
+mapHistorySays most m [] = []
+mapHistorySays most m (onPool c ∷ cs) = history.mapSays most m c ∷ mapHistorySays most (history.callMap most m c) cs
+mapHistorySays most m (build ls vs ws qs ∷ cs) =
+    fitSays (length (prefixes m)) (length ls) (length vs) (length ws) (length qs) ∷ mapHistorySays most m cs

@@ -10,7 +10,7 @@ ghost use Prim.Native.Nat.{_+_, _*_};
 ghost use lib.ListN.{length};
 ghost use lib.Dec.{ltb};
 ghost use Rattle.keymap.specs.Label.{mark};
-ghost use Rattle.image.specs.Meaning.{lent};
+ghost use Rattle.image.specs.Meaning.{lentImage};
 ghost use Rattle.image.specs.AcceptTest.{passesFrom, lengthsFit, imageTest};
 ghost use Rattle.image.specs.WordTest.{entriesFit, Framed};
 
@@ -49,7 +49,7 @@ fn entries_fit(labels: &[u16], values: &[u32]) -> bool
 // The bits from the third on fit, and the ones are as many as the nodes.
 fn passes(labels: &[u16], values: &[u32], words: &[u64]) -> bool
     requires { ⌜ length (now values) ≡ length (now labels) ⌝ ∗ ⌜ Framed (now labels) (now words) ⌝ }
-    ensures { λ r. ⌜ r ≡ passesFrom (lent (now (labels .entry)) (now (values .entry)) (now (words .entry))) (2 * length (now (labels .entry)) + 1) 2 1 0 ⌝ }
+    ensures { λ r. ⌜ r ≡ passesFrom (lentImage labels values words) (2 * length (now (labels .entry)) + 1) 2 1 0 ⌝ }
 {
     let n = labels.len();
     // so every node that a bit names has its entry
@@ -64,7 +64,7 @@ fn passes(labels: &[u16], values: &[u32], words: &[u64]) -> bool
 
 // Whether there are at most 4,096 nodes besides the root, and as many values and words as these ask for.
 pub fn lengths_fit(labels: &[u16], values: &[u32], words: &[u64]) -> bool
-    ensures { λ r. ⌜ r ≡ lengthsFit (lent (now (labels .entry)) (now (values .entry)) (now (words .entry))) ⌝ }
+    ensures { λ r. ⌜ r ≡ lengthsFit (lentImage labels values words) ⌝ }
 {
     let n = labels.len();
     if MOST_NODES < n {
@@ -78,7 +78,7 @@ pub fn lengths_fit(labels: &[u16], values: &[u32], words: &[u64]) -> bool
 
 // Whether the slices are the image of some map.
 pub fn is_image(labels: &[u16], values: &[u32], words: &[u64]) -> bool
-    ensures { λ r. ⌜ r ≡ imageTest (lent (now (labels .entry)) (now (values .entry)) (now (words .entry))) ⌝ }
+    ensures { λ r. ⌜ r ≡ imageTest (lentImage labels values words) ⌝ }
 {
     if !lengths_fit(labels, values, words) {
         return false;

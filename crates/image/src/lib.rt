@@ -21,14 +21,14 @@ ghost use mathlib.Core.Path.{_≡_};
 ghost use mathlib.Core.Logic.{_↔_};
 ghost use mathlib.Core.List.{[], _∷_};
 ghost use Rattle.image.specs.Accept.{OfMap};
-ghost use Rattle.image.specs.Meaning.{lent};
+ghost use Rattle.image.specs.Meaning.{lentImage};
 ghost use Rattle.image.specs.AcceptAnswer.{saidChecked, acceptSays};
-ghost use Rattle.image.specs.Build.{saidBuilt, buildSays, buildLabels, buildValues, buildWords, buildScratch};
+ghost use Rattle.image.specs.Build.{saidBuilt, buildSays, buildLabels, buildValues, buildWords, buildScratch, ofLent};
 
 // Refuses slices that are no map's image. It only reads.
 pub fn accept(labels: &[u16], values: &[u32], words: &[u64]) -> Checked
-    ensures answer { λ r. ⌜ saidChecked r ≡ acceptSays (lent (now (labels .entry)) (now (values .entry)) (now (words .entry))) ⌝ }
-    ensures of_map { λ r. ⌜ (saidChecked r ≡ 0 ∷ []) ↔ OfMap (lent (now (labels .entry)) (now (values .entry)) (now (words .entry))) ⌝ }
+    ensures answer { λ r. ⌜ saidChecked r ≡ acceptSays (lentImage labels values words) ⌝ }
+    ensures of_map { λ r. ⌜ (saidChecked r ≡ 0 ∷ []) ↔ OfMap (lentImage labels values words) ⌝ }
 {
     if !is_image(labels, values, words) {
         return Checked::NotAnImage;
@@ -44,11 +44,11 @@ pub fn build(
     words: &mut [u64],
     scratch: &mut [u32],
 ) -> Built
-    ensures answer { λ r. ⌜ saidBuilt r ≡ buildSays (now (pool .entry)) (now (labels .entry)) (now (values .entry)) (now (words .entry)) (now (scratch .entry)) ⌝ }
-    ensures labels { λ _. ⌜ now (labels .exit) ≡ buildLabels (now (pool .entry)) (now (labels .entry)) (now (values .entry)) (now (words .entry)) (now (scratch .entry)) ⌝ }
-    ensures values { λ _. ⌜ now (values .exit) ≡ buildValues (now (pool .entry)) (now (labels .entry)) (now (values .entry)) (now (words .entry)) (now (scratch .entry)) ⌝ }
-    ensures words { λ _. ⌜ now (words .exit) ≡ buildWords (now (pool .entry)) (now (labels .entry)) (now (values .entry)) (now (words .entry)) (now (scratch .entry)) ⌝ }
-    ensures scratch { λ _. ⌜ now (scratch .exit) ≡ buildScratch (now (pool .entry)) (now (labels .entry)) (now (values .entry)) (now (words .entry)) (now (scratch .entry)) ⌝ }
+    ensures answer { λ r. ⌜ saidBuilt r ≡ ofLent (buildSays (now (pool .entry))) labels values words scratch ⌝ }
+    ensures labels { λ _. ⌜ now (labels .exit) ≡ ofLent (buildLabels (now (pool .entry))) labels values words scratch ⌝ }
+    ensures values { λ _. ⌜ now (values .exit) ≡ ofLent (buildValues (now (pool .entry))) labels values words scratch ⌝ }
+    ensures words { λ _. ⌜ now (words .exit) ≡ ofLent (buildWords (now (pool .entry))) labels values words scratch ⌝ }
+    ensures scratch { λ _. ⌜ now (scratch .exit) ≡ ofLent (buildScratch (now (pool .entry))) labels values words scratch ⌝ }
 {
     if pool.len() < RECORD_WORDS {
         return Built::PoolTooSmall;

@@ -12,7 +12,7 @@ use mathlib.Core.Option.{Option, none, some}
 use lib.ListN.{length, drop}
 use lib.Dec.{leb}
 use Rattle.keymap.specs.Key.{Key}
-use Rattle.keymap.specs.Refusals.{refusalNumber, KeyRoom}
+use Rattle.keymap.specs.Refusals.{refuses, KeyRoom}
 
 abbrev pub given : Option ℕ → Bool
 given none = false
@@ -28,7 +28,7 @@ saysFlag false = 0 ∷ []
 
 -- its length, or refusal 8 where the buffer is shorter
 abbrev pub saysWritten : Key → List ℕ → List ℕ
-saysWritten k out = cond (leb (length k) (length out)) (0 ∷ length k ∷ []) (refusalNumber KeyRoom ∷ [])
+saysWritten k out = cond (leb (length k) (length out)) (0 ∷ length k ∷ []) (refuses KeyRoom)
 
 -- the buffer with a key written to its front, as it was where it is shorter
 abbrev pub writtenTo : Key → List ℕ → List ℕ

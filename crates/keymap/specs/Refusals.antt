@@ -1,6 +1,7 @@
 -- The numbered refusals (01), one table for every crate: which call gives which is in its own crate.
 -- Assumes nothing.
 use Prim.Native.Nat.{ℕ}
+use mathlib.Core.List.{List, [], _∷_}
 
 pub data Refusal : Type 0 where
   PoolTooSmall : Refusal
@@ -23,3 +24,7 @@ refusalNumber NotAnImage = 6
 refusalNumber BadPlace = 7
 refusalNumber KeyRoom = 8
 refusalNumber BadLine = 9
+
+-- what a call that refuses says: the number alone
+abbrev pub refuses : Refusal → List ℕ
+refuses r = refusalNumber r ∷ []

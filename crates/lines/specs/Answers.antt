@@ -2,14 +2,14 @@
 -- Assumes nothing.
 use Prim.Native.Nat.{ℕ}
 use mathlib.Core.List.{List, [], _∷_}
-use Rattle.keymap.specs.Refusals.{Refusal, refusalNumber}
+use Rattle.keymap.specs.Refusals.{Refusal, refuses}
 use Rattle.lines.specs.declared.answers.Parsed.{Parsed}
 use Rattle.lines.specs.declared.answers.Cut.{Cut}
 use Rattle.lines.specs.declared.answers.Written.{Written}
 
 abbrev pub saidParsed : Parsed → List ℕ
 saidParsed (Parsed.Entry l v) = 0 ∷ l ∷ v ∷ []
-saidParsed Parsed.BadLine = refusalNumber Refusal.BadLine ∷ []
+saidParsed Parsed.BadLine = refuses Refusal.BadLine
 
 abbrev pub saidCut : Cut → List ℕ
 saidCut (Cut.Line e n) = 0 ∷ e ∷ n ∷ []
@@ -17,4 +17,4 @@ saidCut Cut.NoLine = 0 ∷ []
 
 abbrev pub saidWritten : Written → List ℕ
 saidWritten (Written.Length n) = 0 ∷ n ∷ []
-saidWritten Written.KeyRoom = refusalNumber Refusal.KeyRoom ∷ []
+saidWritten Written.KeyRoom = refuses Refusal.KeyRoom

@@ -11,7 +11,7 @@ use mathlib.Core.Option.{Option, none, some}
 use lib.ListN.{length, take, drop}
 use Rattle.keymap.specs.Key.{Key}
 use Rattle.keymap.specs.Map.{Entry}
-use Rattle.keymap.specs.Refusals.{Refusal, refusalNumber}
+use Rattle.keymap.specs.Refusals.{Refusal, refuses}
 use Rattle.lines.specs.Bytes.{tab, lineFeed, holds, stretch}
 use Rattle.lines.specs.Decimal.{numberIn}
 
@@ -23,15 +23,15 @@ keyPart line = take (stretch tab line) line
 unfoldable pub numberPart : List ℕ → List ℕ
 numberPart line = drop (suc (stretch tab line)) line
 
-abbrev pub entryOf : Key → Option ℕ → Option Entry
-entryOf k none = none
-entryOf k (some v) = some (k, v)
+abbrev pub withNumber : Key → Option ℕ → Option Entry
+withNumber k none = none
+withNumber k (some v) = some (k, v)
 
 unfoldable pub tabEntry : List ℕ → Option Entry
-tabEntry line = cond (holds tab line && not (holds lineFeed (keyPart line))) (entryOf (keyPart line) (numberIn (numberPart line))) none
+tabEntry line = cond (holds tab line && not (holds lineFeed (keyPart line))) (withNumber (keyPart line) (numberIn (numberPart line))) none
 
 abbrev pub entrySays : Option Entry → List ℕ
-entrySays none = refusalNumber Refusal.BadLine ∷ []
+entrySays none = refuses Refusal.BadLine
 entrySays (some e) = 0 ∷ length (e .0) ∷ e .1 ∷ []
 
 abbrev pub entryKey : Option Entry → Key

@@ -15,7 +15,7 @@ use lib.ListN.{length}
 use lib.Dec.{ltb}
 use Rattle.keymap.specs.Limits.{valueLimit}
 use Rattle.keymap.specs.Map.{Entry}
-use Rattle.keymap.specs.Refusals.{Refusal, refusalNumber}
+use Rattle.keymap.specs.Refusals.{Refusal, refuses}
 use Rattle.keymap.specs.Buffers.{over}
 use Rattle.lines.specs.Bytes.{tab, lineFeed, holds}
 use Rattle.lines.specs.Decimal.{decimal}
@@ -40,7 +40,7 @@ AllPlain [] = Unit {0}
 AllPlain (e ∷ m) = Plain e × AllPlain m
 
 unfoldable pub writeLineSays : Entry → List ℕ → List ℕ
-writeLineSays e out = cond (ltb (length out) (length (tabText e))) (refusalNumber Refusal.KeyRoom ∷ []) (0 ∷ length (tabText e) ∷ [])
+writeLineSays e out = cond (ltb (length out) (length (tabText e))) (refuses Refusal.KeyRoom) (0 ∷ length (tabText e) ∷ [])
 
 unfoldable pub writeLineOut : Entry → List ℕ → List ℕ
 writeLineOut e out = cond (ltb (length out) (length (tabText e))) out (over (tabText e) out)

@@ -3,7 +3,7 @@
 use mathlib.Core.Path.{_≡_}
 use denote.Ref.{now}
 use Rattle.keymap.specs.Contract.{Tells}
-use Rattle.image.specs.Meaning.{lent}
+use Rattle.image.specs.Meaning.{imageIn}
 use Rattle.climbs.specs.Spelling.{saidSpelled}
 use Rattle.listings.specs.declared.answers.Kind.the-variants.{Predictive, Postfix}
 use Rattle.listings.specs.declared.answers.Cursor.the-variants.{Open, Finished}
@@ -23,16 +23,16 @@ use Rattle.listings.proofs.answers.Cursor.top.Reads as top-reads
 use Rattle.listings.proofs.answers.Cursor.finished.Kinds as finished-kinds
 use Rattle.listings.proofs.answers.Cursor.finished.Reads as finished-reads
 
-pub predictive-search-says : Tells 4 predictive-search-kinds.ps predictive-search-kinds.r predictive-search-reads.Post (λ κs a r s. saidStarted r ≡ startSays Predictive (lent (now (a .0)) (now (a .1 .0)) (now (a .1 .1 .0))) (now (a .1 .1 .1 .0)))
+pub predictive-search-says : Tells 4 predictive-search-kinds.ps predictive-search-kinds.r predictive-search-reads.Post (λ κs a r s. saidStarted r ≡ startSays Predictive (imageIn (a .0) (a .1 .0) (a .1 .1 .0)) (now (a .1 .1 .1 .0)))
 predictive-search-says κs a r s p = p
 
-pub postfix-search-says : Tells 4 postfix-search-kinds.ps postfix-search-kinds.r postfix-search-reads.Post (λ κs a r s. saidStarted r ≡ startSays Postfix (lent (now (a .0)) (now (a .1 .0)) (now (a .1 .1 .0))) (now (a .1 .1 .1 .0)))
+pub postfix-search-says : Tells 4 postfix-search-kinds.ps postfix-search-kinds.r postfix-search-reads.Post (λ κs a r s. saidStarted r ≡ startSays Postfix (imageIn (a .0) (a .1 .0) (a .1 .1 .0)) (now (a .1 .1 .1 .0)))
 postfix-search-says κs a r s p = p
 
-pub step-says : Tells 3 step-kinds.ps step-kinds.r step-reads.Post (λ κs a r s. saidStepped r ≡ stepSays (lent (now (a .0)) (now (a .1 .0)) (now (a .1 .1 .0))) (a .1 .1 .1 .0))
+pub step-says : Tells 3 step-kinds.ps step-kinds.r step-reads.Post (λ κs a r s. saidStepped r ≡ stepSays (imageIn (a .0) (a .1 .0) (a .1 .1 .0)) (a .1 .1 .1 .0))
 step-says κs a r s p = p
 
-pub cursor-key-says : Tells 4 cursor-key-kinds.ps cursor-key-kinds.r cursor-key-reads.Post (λ κs a r s. (saidSpelled r ≡ keySays (lent (now (a .0)) (now (a .1 .0)) (now (a .1 .1 .0))) (a .1 .1 .1 .0) (now (a .1 .1 .1 .1 .0))) × (now (s .1 .1 .1 .1 .0) ≡ keyOut (lent (now (a .0)) (now (a .1 .0)) (now (a .1 .1 .0))) (a .1 .1 .1 .0) (now (a .1 .1 .1 .1 .0))))
+pub cursor-key-says : Tells 4 cursor-key-kinds.ps cursor-key-kinds.r cursor-key-reads.Post (λ κs a r s. (saidSpelled r ≡ keySays (imageIn (a .0) (a .1 .0) (a .1 .1 .0)) (a .1 .1 .1 .0) (now (a .1 .1 .1 .1 .0))) × (now (s .1 .1 .1 .1 .0) ≡ keyOut (imageIn (a .0) (a .1 .0) (a .1 .1 .0)) (a .1 .1 .1 .0) (now (a .1 .1 .1 .1 .0))))
 cursor-key-says κs a r s p = p
 
 pub top-says : Tells 0 top-kinds.ps top-kinds.r top-reads.Post (λ κs a r s. r ≡ Open (a .0) (a .1 .0) 0)

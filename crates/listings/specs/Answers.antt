@@ -4,7 +4,7 @@
 -- Assumes nothing.
 use Prim.Native.Nat.{ℕ}
 use mathlib.Core.List.{List, [], _∷_}
-use Rattle.keymap.specs.Refusals.{refusalNumber, NotAnImage, BadPlace}
+use Rattle.keymap.specs.Refusals.{refuses, NotAnImage, BadPlace}
 use Rattle.listings.specs.declared.answers.Kind.{Kind}
 use Rattle.listings.specs.declared.answers.Kind.the-variants as kinds
 use Rattle.listings.specs.declared.answers.Cursor.{Cursor}
@@ -24,10 +24,10 @@ saidCursor (cursors.Finished k) = saidKind k ∷ []
 
 abbrev pub saidStarted : Started → List ℕ
 saidStarted (started.At c) = 0 ∷ saidCursor c
-saidStarted started.NotAnImage = refusalNumber NotAnImage ∷ []
+saidStarted started.NotAnImage = refuses NotAnImage
 
 abbrev pub saidStepped : Stepped → List ℕ
 saidStepped (stepped.Gave node value next) = 0 ∷ node ∷ value ∷ saidCursor next
 saidStepped (stepped.End next) = 0 ∷ 0 ∷ saidCursor next
-saidStepped stepped.NotAnImage = refusalNumber NotAnImage ∷ []
-saidStepped stepped.BadPlace = refusalNumber BadPlace ∷ []
+saidStepped stepped.NotAnImage = refuses NotAnImage
+saidStepped stepped.BadPlace = refuses BadPlace

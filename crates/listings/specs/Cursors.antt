@@ -14,7 +14,7 @@ use mathlib.Core.List.{List, [], _∷_, head?}
 use mathlib.Core.Option.{Option, none, some}
 use Rattle.keymap.specs.Key.{Key}
 use Rattle.keymap.specs.Answers.{given}
-use Rattle.keymap.specs.Refusals.{refusalNumber, BadPlace}
+use Rattle.keymap.specs.Refusals.{refuses, BadPlace}
 use Rattle.keymap.specs.Map.{Entry, Map, lookup}
 use Rattle.keymap.specs.Queries.{nonempty, beginning, longer, leastAbove}
 use Rattle.keymap.specs.Image.{Image}
@@ -42,7 +42,7 @@ belongs m (Finished kind) = true
 
 -- what a call says of a cursor that belongs, and refusal 7 of any other
 abbrev pub onCursor : Map → Cursor → List ℕ → List ℕ
-onCursor m c says = cond (belongs m c) says (refusalNumber BadPlace ∷ [])
+onCursor m c says = cond (belongs m c) says (refuses BadPlace)
 
 unfoldable pub startSays : Kind → Image → Key → List ℕ
 startSays kind i q =

@@ -12,7 +12,7 @@ use mathlib.Core.Option.{Option, none, some}
 use lib.ListN.{length, drop}
 use Rattle.keymap.specs.Key.{Key}
 use Rattle.keymap.specs.Answers.{saysWritten, writtenTo}
-use Rattle.keymap.specs.Refusals.{refusalNumber, BadPlace}
+use Rattle.keymap.specs.Refusals.{refuses, BadPlace}
 use Rattle.keymap.specs.Map.{Map}
 use Rattle.keymap.specs.Image.{Image}
 use Rattle.keymap.specs.Paths.{pathOf}
@@ -39,7 +39,7 @@ keyOf m (Open kind top last) = keyFrom m kind top last
 keyOf m (Finished kind) = none
 
 abbrev pub saysKey : Option Key → List ℕ → List ℕ
-saysKey none out = refusalNumber BadPlace ∷ []
+saysKey none out = refuses BadPlace
 saysKey (some k) out = saysWritten k out
 
 abbrev pub writtenKey : Option Key → List ℕ → List ℕ

@@ -3,7 +3,7 @@
 // The functions that the calls are made of answer for any slices and numbers (specs/Numbers), and read the first `len` bits.
 ghost use mathlib.Core.Path.{_≡_};
 ghost use Rattle.keymap.specs.Bits.{bit};
-ghost use Rattle.image.specs.Meaning.{lent};
+ghost use Rattle.image.specs.Meaning.{lentImage};
 ghost use Rattle.climbs.specs.Order.{givenOf};
 ghost use Rattle.listings.specs.declared.answers.Kind.the-variants as kinds;
 ghost use Rattle.listings.specs.Answers.{saidStarted, saidStepped};
@@ -148,7 +148,7 @@ fn start(labels: &[u16], words: &[u64], len: usize, kind: Kind, query: &[u8]) ->
 
 // A cursor over the keys that begin with a query, finished where there are none.
 pub fn predictive_search(labels: &[u16], values: &[u32], words: &[u64], query: &[u8]) -> Started
-    ensures answer { λ r. ⌜ saidStarted r ≡ startSays kinds.Predictive (lent (now (labels .entry)) (now (values .entry)) (now (words .entry))) (now (query .entry)) ⌝ }
+    ensures answer { λ r. ⌜ saidStarted r ≡ startSays kinds.Predictive (lentImage labels values words) (now (query .entry)) ⌝ }
 {
     if !is_image(labels, values, words) {
         return Started::NotAnImage;
@@ -159,7 +159,7 @@ pub fn predictive_search(labels: &[u16], values: &[u32], words: &[u64], query: &
 
 // A cursor over the keys that begin with a query and are longer, finished where there are none.
 pub fn postfix_search(labels: &[u16], values: &[u32], words: &[u64], query: &[u8]) -> Started
-    ensures answer { λ r. ⌜ saidStarted r ≡ startSays kinds.Postfix (lent (now (labels .entry)) (now (values .entry)) (now (words .entry))) (now (query .entry)) ⌝ }
+    ensures answer { λ r. ⌜ saidStarted r ≡ startSays kinds.Postfix (lentImage labels values words) (now (query .entry)) ⌝ }
 {
     if !is_image(labels, values, words) {
         return Started::NotAnImage;
@@ -170,7 +170,7 @@ pub fn postfix_search(labels: &[u16], values: &[u32], words: &[u64], query: &[u8
 
 // The least key of the cursor's set above the one given last, with the cursor to go on with; after the last key, and of a finished cursor, the end.
 pub fn step(labels: &[u16], values: &[u32], words: &[u64], cursor: Cursor) -> Stepped
-    ensures answer { λ r. ⌜ saidStepped r ≡ stepSays (lent (now (labels .entry)) (now (values .entry)) (now (words .entry))) cursor ⌝ }
+    ensures answer { λ r. ⌜ saidStepped r ≡ stepSays (lentImage labels values words) cursor ⌝ }
 {
     if !is_image(labels, values, words) {
         return Stepped::NotAnImage;

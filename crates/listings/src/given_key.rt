@@ -1,7 +1,7 @@
 // The key that a cursor gave last, after the buffers of `src/iter/search_iter.rs` and `src/iter/postfix_iter.rs`: the numbers tell it, and it is spelled on request.
 ghost use mathlib.Core.Path.{_≡_};
 ghost use Rattle.keymap.specs.Bits.{bit};
-ghost use Rattle.image.specs.Meaning.{lent};
+ghost use Rattle.image.specs.Meaning.{lentImage};
 ghost use Rattle.climbs.specs.Spelling.{saidSpelled};
 ghost use Rattle.listings.specs.Numbers.{givenLenBy};
 ghost use Rattle.listings.specs.GivenKey.{keySays, keyOut};
@@ -38,8 +38,8 @@ pub fn cursor_key(
     cursor: Cursor,
     out: &mut [u8],
 ) -> Spelled
-    ensures answer { λ r. ⌜ saidSpelled r ≡ keySays (lent (now (labels .entry)) (now (values .entry)) (now (words .entry))) cursor (now (out .entry)) ⌝ }
-    ensures written { λ _. ⌜ now (out .exit) ≡ keyOut (lent (now (labels .entry)) (now (values .entry)) (now (words .entry))) cursor (now (out .entry)) ⌝ }
+    ensures answer { λ r. ⌜ saidSpelled r ≡ keySays (lentImage labels values words) cursor (now (out .entry)) ⌝ }
+    ensures written { λ _. ⌜ now (out .exit) ≡ keyOut (lentImage labels values words) cursor (now (out .entry)) ⌝ }
 {
     if !is_image(labels, values, words) {
         return Spelled::NotAnImage;

@@ -3,7 +3,7 @@
 // A line of the list `cases` has a letter, q for `query`, u for `query_until`, g for `goto_longest_prefix`; the place's node; an image of at most three
 // nodes, as how many there are, their labels, their values and the word of bits; and the name of the case, which ends with what is asked. The images are
 // the empty map's; A's ("ab" 7, "b" 3); that of "a" 1, "ab" 2, where "a" has the place that it has in A; and the last with one bit too many, which is none.
-ghost use Rattle.image.specs.Meaning.{lent};
+ghost use Rattle.image.specs.Meaning.{lentImage};
 ghost use Rattle.places.specs.Incremental.{placeAt, QueryPromise, FollowPromise, GotoPromise};
 use places::Answer;
 use places::FollowMove;
@@ -43,7 +43,7 @@ const TYPED: usize = 80;
 // Lends a place at a node to `query`.
 fn query_from(labels: &[u16], values: &[u32], words: &[u64], node: u32, label: u8) -> QueryMove
     ensures { λ r.
-        ⌜ QueryPromise (lent (now (labels .entry)) (now (values .entry)) (now (words .entry))) label (placeAt node) (r .answer) (placeAt (r .node)) ⌝ }
+        ⌜ QueryPromise (lentImage labels values words) label (placeAt node) (r .answer) (placeAt (r .node)) ⌝ }
 {
     let mut place = Place { node };
     let answer = query(labels, values, words, &mut place, label);
@@ -63,7 +63,7 @@ fn query_until_from(
 ) -> FollowMove
     ensures { λ r.
         ⌜
-        FollowPromise (lent (now (labels .entry)) (now (values .entry)) (now (words .entry))) (now (text .entry)) (placeAt node) (r .answer) (placeAt (r .node))
+        FollowPromise (lentImage labels values words) (now (text .entry)) (placeAt node) (r .answer) (placeAt (r .node))
         ⌝ }
 {
     let mut place = Place { node };
@@ -76,7 +76,7 @@ fn query_until_from(
 
 // Lends a place at a node to `goto_longest_prefix`.
 fn goto_from(labels: &[u16], values: &[u32], words: &[u64], node: u32) -> GotoMove
-    ensures { λ r. ⌜ GotoPromise (lent (now (labels .entry)) (now (values .entry)) (now (words .entry))) (placeAt node) (r .answer) (placeAt (r .node)) ⌝ }
+    ensures { λ r. ⌜ GotoPromise (lentImage labels values words) (placeAt node) (r .answer) (placeAt (r .node)) ⌝ }
 {
     let mut place = Place { node };
     let answer = goto_longest_prefix(labels, values, words, &mut place);

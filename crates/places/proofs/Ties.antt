@@ -18,7 +18,7 @@ use denote.Triple.Clauses.{AtExit}
 use Rattle.keymap.specs.Contract.{Tells}
 use Rattle.keymap.specs.Key.{Key}
 use Rattle.keymap.specs.Image.{Image}
-use Rattle.image.specs.Meaning.{lent}
+use Rattle.image.specs.Meaning.{imageIn}
 use Rattle.places.specs.declared.answers.Place.{Place}
 use Rattle.places.specs.declared.answers.Queried.{Queried}
 use Rattle.places.specs.declared.answers.Followed.{Followed}
@@ -55,28 +55,28 @@ use Rattle.places.proofs.answers.Answer.is_match.Reads as answer-is-mat
 pub root-says : Tells 0 root-kinds.ps root-kinds.r root-reads.Post (λ κs a r s. r ≡ placeAt 1)
 root-says κs a r s p = p .0
 
-pub resume-says : Tells 3 resume-kinds.ps resume-kinds.r resume-reads.Post (λ κs a r s. saidResumed r ≡ resumeSays (lent (now (a .0)) (now (a .1 .0)) (now (a .1 .1 .0))) (a .1 .1 .1 .0))
+pub resume-says : Tells 3 resume-kinds.ps resume-kinds.r resume-reads.Post (λ κs a r s. saidResumed r ≡ resumeSays (imageIn (a .0) (a .1 .0) (a .1 .1 .0)) (a .1 .1 .1 .0))
 resume-says κs a r s p = p
 
-pub value-says : Tells 3 value-kinds.ps value-kinds.r value-reads.Post (λ κs a r s. saidValued r ≡ valueSays (lent (now (a .0)) (now (a .1 .0)) (now (a .1 .1 .0))) (a .1 .1 .1 .0 .node))
+pub value-says : Tells 3 value-kinds.ps value-kinds.r value-reads.Post (λ κs a r s. saidValued r ≡ valueSays (imageIn (a .0) (a .1 .0) (a .1 .1 .0)) (a .1 .1 .1 .0 .node))
 value-says κs a r s p = p
 
-pub prefix-len-says : Tells 3 prefix-len-kinds.ps prefix-len-kinds.r prefix-len-reads.Post (λ κs a r s. saidMeasured r ≡ prefixLenSays (lent (now (a .0)) (now (a .1 .0)) (now (a .1 .1 .0))) (a .1 .1 .1 .0 .node))
+pub prefix-len-says : Tells 3 prefix-len-kinds.ps prefix-len-kinds.r prefix-len-reads.Post (λ κs a r s. saidMeasured r ≡ prefixLenSays (imageIn (a .0) (a .1 .0) (a .1 .1 .0)) (a .1 .1 .1 .0 .node))
 prefix-len-says κs a r s p = p
 
-pub prefix-says : Tells 4 prefix-kinds.ps prefix-kinds.r prefix-reads.Post (λ κs a r s. (saidSpelled r ≡ prefixSays (lent (now (a .0)) (now (a .1 .0)) (now (a .1 .1 .0))) (a .1 .1 .1 .0 .node) (now (a .1 .1 .1 .1 .0))) × (now (s .1 .1 .1 .1 .0) ≡ prefixOut (lent (now (a .0)) (now (a .1 .0)) (now (a .1 .1 .0))) (a .1 .1 .1 .0 .node) (now (a .1 .1 .1 .1 .0))))
+pub prefix-says : Tells 4 prefix-kinds.ps prefix-kinds.r prefix-reads.Post (λ κs a r s. (saidSpelled r ≡ prefixSays (imageIn (a .0) (a .1 .0) (a .1 .1 .0)) (a .1 .1 .1 .0 .node) (now (a .1 .1 .1 .1 .0))) × (now (s .1 .1 .1 .1 .0) ≡ prefixOut (imageIn (a .0) (a .1 .0) (a .1 .1 .0)) (a .1 .1 .1 .0 .node) (now (a .1 .1 .1 .1 .0))))
 prefix-says κs a r s p = p
 
-pub peek-says : Tells 3 peek-kinds.ps peek-kinds.r peek-reads.Post (λ κs a r s. saidQueried r ≡ querySays (lent (now (a .0)) (now (a .1 .0)) (now (a .1 .1 .0))) (a .1 .1 .1 .0 .node) (a .1 .1 .1 .1 .0))
+pub peek-says : Tells 3 peek-kinds.ps peek-kinds.r peek-reads.Post (λ κs a r s. saidQueried r ≡ querySays (imageIn (a .0) (a .1 .0) (a .1 .1 .0)) (a .1 .1 .1 .0 .node) (a .1 .1 .1 .1 .0))
 peek-says κs a r s p = p
 
-pub query-at-says : Tells 3 query-at-kinds.ps query-at-kinds.r query-at-reads.Post (λ κs a r s. (saidQueried (r .answer) ≡ querySays (lent (now (a .0)) (now (a .1 .0)) (now (a .1 .1 .0))) (a .1 .1 .1 .0) (a .1 .1 .1 .1 .0)) × (r .node ≡ queryMoves (lent (now (a .0)) (now (a .1 .0)) (now (a .1 .1 .0))) (a .1 .1 .1 .0) (a .1 .1 .1 .1 .0)))
+pub query-at-says : Tells 3 query-at-kinds.ps query-at-kinds.r query-at-reads.Post (λ κs a r s. (saidQueried (r .answer) ≡ querySays (imageIn (a .0) (a .1 .0) (a .1 .1 .0)) (a .1 .1 .1 .0) (a .1 .1 .1 .1 .0)) × (r .node ≡ queryMoves (imageIn (a .0) (a .1 .0) (a .1 .1 .0)) (a .1 .1 .1 .0) (a .1 .1 .1 .1 .0)))
 query-at-says κs a r s p = (p .answers, ap (λ (x : Place). x .node) (p .stands))
 
-pub query-until-at-says : Tells 4 query-until-at-kinds.ps query-until-at-kinds.r query-until-at-reads.Post (λ κs a r s. (saidFollowed (r .answer) ≡ followSays (lent (now (a .0)) (now (a .1 .0)) (now (a .1 .1 .0))) (a .1 .1 .1 .0) (now (a .1 .1 .1 .1 .0))) × (r .node ≡ followMoves (lent (now (a .0)) (now (a .1 .0)) (now (a .1 .1 .0))) (a .1 .1 .1 .0) (now (a .1 .1 .1 .1 .0))))
+pub query-until-at-says : Tells 4 query-until-at-kinds.ps query-until-at-kinds.r query-until-at-reads.Post (λ κs a r s. (saidFollowed (r .answer) ≡ followSays (imageIn (a .0) (a .1 .0) (a .1 .1 .0)) (a .1 .1 .1 .0) (now (a .1 .1 .1 .1 .0))) × (r .node ≡ followMoves (imageIn (a .0) (a .1 .0) (a .1 .1 .0)) (a .1 .1 .1 .0) (now (a .1 .1 .1 .1 .0))))
 query-until-at-says κs a r s p = (p .answers, ap (λ (x : Place). x .node) (p .stands))
 
-pub goto-at-says : Tells 3 goto-at-kinds.ps goto-at-kinds.r goto-at-reads.Post (λ κs a r s. (saidGone (r .answer) ≡ gotoSays (lent (now (a .0)) (now (a .1 .0)) (now (a .1 .1 .0))) (a .1 .1 .1 .0)) × (r .node ≡ gotoMoves (lent (now (a .0)) (now (a .1 .0)) (now (a .1 .1 .0))) (a .1 .1 .1 .0)))
+pub goto-at-says : Tells 3 goto-at-kinds.ps goto-at-kinds.r goto-at-reads.Post (λ κs a r s. (saidGone (r .answer) ≡ gotoSays (imageIn (a .0) (a .1 .0) (a .1 .1 .0)) (a .1 .1 .1 .0)) × (r .node ≡ gotoMoves (imageIn (a .0) (a .1 .0) (a .1 .1 .0)) (a .1 .1 .1 .0)))
 goto-at-says κs a r s p = (p .answers, ap (λ (x : Place). x .node) (p .stands))
 
 pub answer-is-prefix-says : Tells 0 answer-is-prefix-kinds.ps answer-is-prefix-kinds.r answer-is-prefix-reads.Post (λ κs a r s. r ≡ tellsPrefix (a .0))
@@ -92,15 +92,15 @@ tells said says after moves p = (p .answers, ap (λ (x : Place). x .node) (p .st
 
 module _ {M : Type 1} (𝓤 : URA M) (H : Heap 𝓤) (A : Atoms 𝓤) (mem : Memory → SProp 𝓤) (run : Routine → Fun 𝓤) where
   pub query-claims : (κs : Lfts 4) (a : Args query.signature κs) (r : Res query.signature κs) (s : AtExit query.ended κs)
-      → query.clauses 𝓤 H A mem run κs a .ensures tt r s ≡ fact 𝓤 (QueryPromise (lent (now (a .0)) (now (a .1 .0)) (now (a .1 .1 .0))) (a .1 .1 .1 .1 .0) (now (a .1 .1 .1 .0)) r (now (s .1 .1 .1 .0)))
+      → query.clauses 𝓤 H A mem run κs a .ensures tt r s ≡ fact 𝓤 (QueryPromise (imageIn (a .0) (a .1 .0) (a .1 .1 .0)) (a .1 .1 .1 .1 .0) (now (a .1 .1 .1 .0)) r (now (s .1 .1 .1 .0)))
   query-claims κs a r s = refl
 
   pub query-until-claims : (κs : Lfts 5) (a : Args query-until.signature κs) (r : Res query-until.signature κs) (s : AtExit query-until.ended κs)
-      → query-until.clauses 𝓤 H A mem run κs a .ensures tt r s ≡ fact 𝓤 (FollowPromise (lent (now (a .0)) (now (a .1 .0)) (now (a .1 .1 .0))) (now (a .1 .1 .1 .1 .0)) (now (a .1 .1 .1 .0)) r (now (s .1 .1 .1 .0)))
+      → query-until.clauses 𝓤 H A mem run κs a .ensures tt r s ≡ fact 𝓤 (FollowPromise (imageIn (a .0) (a .1 .0) (a .1 .1 .0)) (now (a .1 .1 .1 .1 .0)) (now (a .1 .1 .1 .0)) r (now (s .1 .1 .1 .0)))
   query-until-claims κs a r s = refl
 
   pub goto-longest-prefix-claims : (κs : Lfts 4) (a : Args goto-longest-prefix.signature κs) (r : Res goto-longest-prefix.signature κs) (s : AtExit goto-longest-prefix.ended κs)
-      → goto-longest-prefix.clauses 𝓤 H A mem run κs a .ensures tt r s ≡ fact 𝓤 (GotoPromise (lent (now (a .0)) (now (a .1 .0)) (now (a .1 .1 .0))) (now (a .1 .1 .1 .0)) r (now (s .1 .1 .1 .0)))
+      → goto-longest-prefix.clauses 𝓤 H A mem run κs a .ensures tt r s ≡ fact 𝓤 (GotoPromise (imageIn (a .0) (a .1 .0) (a .1 .1 .0)) (now (a .1 .1 .1 .0)) r (now (s .1 .1 .1 .0)))
   goto-longest-prefix-claims κs a r s = refl
 
 pub query-says : (i : Image) (a : ℕ) (before : Place) (r : Queried) (after : Place) → QueryPromise i a before r after → (saidQueried r ≡ querySays i (before .node) a) × (after .node ≡ queryMoves i (before .node) a)

@@ -17,7 +17,7 @@ use mathlib.Core.Bool.{Bool, true, false, cond}
 use mathlib.Core.List.{List, [], _∷_, _++_}
 use lib.ListN.{length, take}
 use Rattle.keymap.specs.Key.{Key}
-use Rattle.keymap.specs.Refusals.{refusalNumber, NotAnImage, BadPlace}
+use Rattle.keymap.specs.Refusals.{refuses, NotAnImage, BadPlace}
 use Rattle.keymap.specs.Map.{Map, lookup}
 use Rattle.keymap.specs.Queries.{longer, isPrefixIn, commonOfAll}
 use Rattle.keymap.specs.Image.{Image}
@@ -64,20 +64,20 @@ saysErr n = 0 ∷ 1 ∷ n ∷ []
 abbrev pub saidQueried : Queried → List ℕ
 saidQueried (queried.Found a) = 0 ∷ saidAnswer a ∷ []
 saidQueried queried.NoMatch = 0 ∷ []
-saidQueried queried.NotAnImage = refusalNumber NotAnImage ∷ []
-saidQueried queried.BadPlace = refusalNumber BadPlace ∷ []
+saidQueried queried.NotAnImage = refuses NotAnImage
+saidQueried queried.BadPlace = refuses BadPlace
 
 abbrev pub saidGone : Gone → List ℕ
 saidGone (gone.Ok d) = saysOk d
 saidGone (gone.Err d) = saysErr d
-saidGone gone.NotAnImage = refusalNumber NotAnImage ∷ []
-saidGone gone.BadPlace = refusalNumber BadPlace ∷ []
+saidGone gone.NotAnImage = refuses NotAnImage
+saidGone gone.BadPlace = refuses BadPlace
 
 abbrev pub saidFollowed : Followed → List ℕ
 saidFollowed (followed.Ok a) = saysOk (saidAnswer a)
 saidFollowed (followed.Err j) = saysErr j
-saidFollowed followed.NotAnImage = refusalNumber NotAnImage ∷ []
-saidFollowed followed.BadPlace = refusalNumber BadPlace ∷ []
+saidFollowed followed.NotAnImage = refuses NotAnImage
+saidFollowed followed.BadPlace = refuses BadPlace
 
 -- ---- on a place
 
@@ -86,7 +86,7 @@ placeAt k = record { node = k }
 
 -- what a call says of a place that belongs, and refusal 7 of any other
 abbrev pub onPlace : Image → ℕ → List ℕ → List ℕ
-onPlace i k says = onImage i (cond (isNode (imageMap i) k) says (refusalNumber BadPlace ∷ []))
+onPlace i k says = onImage i (cond (isNode (imageMap i) k) says (refuses BadPlace))
 
 -- where a call leaves a place that belongs; any other stays
 abbrev pub fromPlace : Image → ℕ → ℕ → ℕ

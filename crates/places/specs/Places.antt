@@ -5,7 +5,7 @@ use Prim.Native.Nat.{ℕ}
 use mathlib.Core.Bool.{cond}
 use mathlib.Core.List.{List, [], _∷_}
 use lib.ListN.{length}
-use Rattle.keymap.specs.Refusals.{refusalNumber, NotAnImage, BadPlace}
+use Rattle.keymap.specs.Refusals.{refuses, NotAnImage, BadPlace}
 use Rattle.keymap.specs.Map.{lookup}
 use Rattle.keymap.specs.Image.{Image}
 use Rattle.keymap.specs.Paths.{isNode, pathOf}
@@ -22,19 +22,19 @@ use Rattle.places.specs.Incremental.{onPlace}
 
 abbrev pub saidResumed : Resumed → List ℕ
 saidResumed (resumed.At place) = 0 ∷ place .node ∷ []
-saidResumed resumed.NotAnImage = refusalNumber NotAnImage ∷ []
-saidResumed resumed.BadPlace = refusalNumber BadPlace ∷ []
+saidResumed resumed.NotAnImage = refuses NotAnImage
+saidResumed resumed.BadPlace = refuses BadPlace
 
 abbrev pub saidValued : Valued → List ℕ
 saidValued (valued.Value v) = 0 ∷ v ∷ []
 saidValued valued.NoValue = 0 ∷ []
-saidValued valued.NotAnImage = refusalNumber NotAnImage ∷ []
-saidValued valued.BadPlace = refusalNumber BadPlace ∷ []
+saidValued valued.NotAnImage = refuses NotAnImage
+saidValued valued.BadPlace = refuses BadPlace
 
 abbrev pub saidMeasured : Measured → List ℕ
 saidMeasured (measured.Length n) = 0 ∷ n ∷ []
-saidMeasured measured.NotAnImage = refusalNumber NotAnImage ∷ []
-saidMeasured measured.BadPlace = refusalNumber BadPlace ∷ []
+saidMeasured measured.NotAnImage = refuses NotAnImage
+saidMeasured measured.BadPlace = refuses BadPlace
 
 unfoldable pub resumeSays : Image → ℕ → List ℕ
 resumeSays i k = onPlace i k (0 ∷ k ∷ [])

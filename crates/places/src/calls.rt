@@ -1,6 +1,6 @@
 // Moving a place: the image and the number are tested, and then the move is made on numbers. A refusal leaves the place where it is.
 ghost use mathlib.Core.Path.{_≡_};
-ghost use Rattle.image.specs.Meaning.{lent};
+ghost use Rattle.image.specs.Meaning.{lentImage};
 ghost use Rattle.places.specs.Incremental.{placeAt, saidQueried, querySays, QueryPromise, FollowPromise, GotoPromise};
 use crate::answers::FollowMove;
 use crate::answers::Followed;
@@ -18,7 +18,7 @@ use walks::entries::is_node;
 // What `query` answers from a node's number, and where it leaves the place.
 pub fn query_at(labels: &[u16], values: &[u32], words: &[u64], node: u32, label: u8) -> QueryMove
     ensures { λ r.
-        ⌜ QueryPromise (lent (now (labels .entry)) (now (values .entry)) (now (words .entry))) label (placeAt node) (r .answer) (placeAt (r .node)) ⌝ }
+        ⌜ QueryPromise (lentImage labels values words) label (placeAt node) (r .answer) (placeAt (r .node)) ⌝ }
 {
     if !is_image(labels, values, words) {
         return QueryMove {
@@ -44,7 +44,7 @@ pub fn query_until_at(
     query: &[u8],
 ) -> FollowMove
     ensures { λ r.
-        ⌜ FollowPromise (lent (now (labels .entry)) (now (values .entry)) (now (words .entry))) (now (query .entry)) (placeAt node) (r .answer) (placeAt (r .node)) ⌝ }
+        ⌜ FollowPromise (lentImage labels values words) (now (query .entry)) (placeAt node) (r .answer) (placeAt (r .node)) ⌝ }
 {
     if !is_image(labels, values, words) {
         return FollowMove {
@@ -64,7 +64,7 @@ pub fn query_until_at(
 // What `goto_longest_prefix` answers from a node's number, and where it leaves the place.
 pub fn goto_at(labels: &[u16], values: &[u32], words: &[u64], node: u32) -> GotoMove
     ensures { λ r.
-        ⌜ GotoPromise (lent (now (labels .entry)) (now (values .entry)) (now (words .entry))) (placeAt node) (r .answer) (placeAt (r .node)) ⌝ }
+        ⌜ GotoPromise (lentImage labels values words) (placeAt node) (r .answer) (placeAt (r .node)) ⌝ }
 {
     if !is_image(labels, values, words) {
         return GotoMove {
@@ -83,7 +83,7 @@ pub fn goto_at(labels: &[u16], values: &[u32], words: &[u64], node: u32) -> Goto
 
 // What a query by a label would answer. The place is only read.
 pub fn peek(labels: &[u16], values: &[u32], words: &[u64], place: Place, label: u8) -> Queried
-    ensures answer { λ r. ⌜ saidQueried r ≡ querySays (lent (now (labels .entry)) (now (values .entry)) (now (words .entry))) (place .node) label ⌝ }
+    ensures answer { λ r. ⌜ saidQueried r ≡ querySays (lentImage labels values words) (place .node) label ⌝ }
 {
     let m = query_at(labels, values, words, place.node, label);
     m.answer
@@ -92,7 +92,7 @@ pub fn peek(labels: &[u16], values: &[u32], words: &[u64], place: Place, label: 
 // Moves a place to the child with a label; with no such child it stays.
 pub fn query(labels: &[u16], values: &[u32], words: &[u64], place: &mut Place, label: u8) -> Queried
     ensures { λ r.
-        ⌜ QueryPromise (lent (now (labels .entry)) (now (values .entry)) (now (words .entry))) label (now (place .entry)) r (now (place .exit)) ⌝ }
+        ⌜ QueryPromise (lentImage labels values words) label (now (place .entry)) r (now (place .exit)) ⌝ }
 {
     let m = query_at(labels, values, words, place.node, label);
     place.node = m.node;
@@ -109,7 +109,7 @@ pub fn query_until(
 ) -> Followed
     ensures { λ r.
         ⌜
-        FollowPromise (lent (now (labels .entry)) (now (values .entry)) (now (words .entry))) (now (query .entry)) (now (place .entry)) r (now (place .exit))
+        FollowPromise (lentImage labels values words) (now (query .entry)) (now (place .entry)) r (now (place .exit))
         ⌝ }
 {
     let m = query_until_at(labels, values, words, place.node, query);
@@ -119,7 +119,7 @@ pub fn query_until(
 
 // Moves a place to the longest common prefix of the longer keys that begin with its path; where there are none it stays.
 pub fn goto_longest_prefix(labels: &[u16], values: &[u32], words: &[u64], place: &mut Place) -> Gone
-    ensures { λ r. ⌜ GotoPromise (lent (now (labels .entry)) (now (values .entry)) (now (words .entry))) (now (place .entry)) r (now (place .exit)) ⌝ }
+    ensures { λ r. ⌜ GotoPromise (lentImage labels values words) (now (place .entry)) r (now (place .exit)) ⌝ }
 {
     let m = goto_at(labels, values, words, place.node);
     place.node = m.node;

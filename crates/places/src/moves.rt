@@ -1,6 +1,6 @@
 // Moving from a node by labels, on numbers, total: each answers for any slices and any number. The calls on a place test both first.
 ghost use mathlib.Core.Path.{_≡_};
-ghost use Rattle.image.specs.Meaning.{lent};
+ghost use Rattle.image.specs.Meaning.{lentImage};
 ghost use Rattle.places.specs.Moves.{placeNumber, answerBy, queryBy, followBy, gotoBy};
 use crate::answers::Answer;
 use crate::answers::FollowMove;
@@ -31,7 +31,7 @@ fn place_number(node: usize) -> u32
 
 // What a node but the root is. One without child is a key: in the image of a map it has a value.
 fn answer_at(labels: &[u16], values: &[u32], words: &[u64], s: Stand) -> Answer
-    ensures { λ r. ⌜ r ≡ answerBy (lent (now (labels .entry)) (now (values .entry)) (now (words .entry))) s ⌝ }
+    ensures { λ r. ⌜ r ≡ answerBy (lentImage labels values words) s ⌝ }
 {
     let len = 2 * labels.len() + 3;
     let k = kids(words, len, s);
@@ -46,7 +46,7 @@ fn answer_at(labels: &[u16], values: &[u32], words: &[u64], s: Stand) -> Answer
 
 // To the child with a label, if there is one.
 pub fn step_by(labels: &[u16], values: &[u32], words: &[u64], node: u32, label: u8) -> QueryMove
-    ensures { λ r. ⌜ r ≡ queryBy (lent (now (labels .entry)) (now (values .entry)) (now (words .entry))) node label ⌝ }
+    ensures { λ r. ⌜ r ≡ queryBy (lentImage labels values words) node label ⌝ }
 {
     let len = 2 * labels.len() + 3;
     let s = stand_at(words, len, node as usize);
@@ -64,7 +64,7 @@ pub fn step_by(labels: &[u16], values: &[u32], words: &[u64], node: u32, label: 
 
 // Along a query, as far as there are nodes.
 pub fn follow(labels: &[u16], values: &[u32], words: &[u64], node: u32, query: &[u8]) -> FollowMove
-    ensures { λ r. ⌜ r ≡ followBy (lent (now (labels .entry)) (now (values .entry)) (now (words .entry))) node (now (query .entry)) ⌝ }
+    ensures { λ r. ⌜ r ≡ followBy (lentImage labels values words) node (now (query .entry)) ⌝ }
 {
     let len = 2 * labels.len() + 3;
     let mut s = stand_at(words, len, node as usize);
@@ -94,7 +94,7 @@ pub fn follow(labels: &[u16], values: &[u32], words: &[u64], node: u32, query: &
 
 // To where the longer keys that begin with a node's path part, or one of them ends. A value at the node itself does not hold it.
 pub fn go_down(labels: &[u16], values: &[u32], words: &[u64], node: u32) -> GotoMove
-    ensures { λ r. ⌜ r ≡ gotoBy (lent (now (labels .entry)) (now (values .entry)) (now (words .entry))) node ⌝ }
+    ensures { λ r. ⌜ r ≡ gotoBy (lentImage labels values words) node ⌝ }
 {
     let len = 2 * labels.len() + 3;
     let s = stand_at(words, len, node as usize);

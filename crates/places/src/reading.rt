@@ -1,6 +1,6 @@
 // Reading a place: the image and the number are tested, and then the path of the node is read.
 ghost use mathlib.Core.Path.{_≡_};
-ghost use Rattle.image.specs.Meaning.{lent};
+ghost use Rattle.image.specs.Meaning.{lentImage};
 ghost use Rattle.climbs.specs.Spelling.{saidSpelled};
 ghost use Rattle.places.specs.Places.{saidResumed, saidValued, saidMeasured, resumeSays, valueSays, prefixLenSays, prefixSays, prefixOut};
 use crate::answers::Measured;
@@ -17,7 +17,7 @@ use walks::entries::value_at;
 
 // The place at a node's number.
 pub fn resume(labels: &[u16], values: &[u32], words: &[u64], node: u32) -> Resumed
-    ensures answer { λ r. ⌜ saidResumed r ≡ resumeSays (lent (now (labels .entry)) (now (values .entry)) (now (words .entry))) node ⌝ }
+    ensures answer { λ r. ⌜ saidResumed r ≡ resumeSays (lentImage labels values words) node ⌝ }
 {
     if !is_image(labels, values, words) {
         return Resumed::NotAnImage;
@@ -30,7 +30,7 @@ pub fn resume(labels: &[u16], values: &[u32], words: &[u64], node: u32) -> Resum
 
 // The value of a place's path.
 pub fn value(labels: &[u16], values: &[u32], words: &[u64], place: Place) -> Valued
-    ensures answer { λ r. ⌜ saidValued r ≡ valueSays (lent (now (labels .entry)) (now (values .entry)) (now (words .entry))) (place .node) ⌝ }
+    ensures answer { λ r. ⌜ saidValued r ≡ valueSays (lentImage labels values words) (place .node) ⌝ }
 {
     let node = place.node;
     if !is_image(labels, values, words) {
@@ -47,7 +47,7 @@ pub fn value(labels: &[u16], values: &[u32], words: &[u64], place: Place) -> Val
 
 // How many labels lead to a place.
 pub fn prefix_len(labels: &[u16], values: &[u32], words: &[u64], place: Place) -> Measured
-    ensures answer { λ r. ⌜ saidMeasured r ≡ prefixLenSays (lent (now (labels .entry)) (now (values .entry)) (now (words .entry))) (place .node) ⌝ }
+    ensures answer { λ r. ⌜ saidMeasured r ≡ prefixLenSays (lentImage labels values words) (place .node) ⌝ }
 {
     let node = place.node;
     if !is_image(labels, values, words) {
@@ -68,8 +68,8 @@ pub fn prefix(
     place: Place,
     out: &mut [u8],
 ) -> Spelled
-    ensures answer { λ r. ⌜ saidSpelled r ≡ prefixSays (lent (now (labels .entry)) (now (values .entry)) (now (words .entry))) (place .node) (now (out .entry)) ⌝ }
-    ensures written { λ _. ⌜ now (out .exit) ≡ prefixOut (lent (now (labels .entry)) (now (values .entry)) (now (words .entry))) (place .node) (now (out .entry)) ⌝ }
+    ensures answer { λ r. ⌜ saidSpelled r ≡ prefixSays (lentImage labels values words) (place .node) (now (out .entry)) ⌝ }
+    ensures written { λ _. ⌜ now (out .exit) ≡ prefixOut (lentImage labels values words) (place .node) (now (out .entry)) ⌝ }
 {
     let node = place.node;
     if !is_image(labels, values, words) {

@@ -17,10 +17,10 @@ use Rattle.pool.specs.Entering.{enteredAt, entered, enteredAll, lastEnte
 use Rattle.pool.specs.Reset.{resetSays, resetPool}
 use Rattle.pool.specs.UseCount.{useCountSays}
 use Rattle.pool.specs.Push.{insertedAt, inserted, hasRoom, testedSays, pushSays, pushPool}
-use Rattle.pool.specs.History.{Call, runSays, runPool}
+use Rattle.pool.specs.History.{PoolCall, runSays, runPool}
 
 pub record Line : Type 0 where
-  pub calls : List Call
+  pub calls : List PoolCall
   pub says : List (List ℕ)
   pub words : Pool
   pub holds : Map
@@ -40,25 +40,25 @@ start = replicate 23 9
 pub lines : List Line
 lines =
     record {
-      calls = Call.reset ∷ Call.useCount ∷ [];
+      calls = PoolCall.reset ∷ PoolCall.useCount ∷ [];
       says = (0 ∷ []) ∷ (0 ∷ 0 ∷ []) ∷ [];
       words = 0 ∷ 0 ∷ 0 ∷ 0 ∷ 0 ∷ replicate 18 9;
       holds = [];
     }
     ∷ record {
-      calls = Call.reset ∷ Call.push ab 7 ∷ Call.push b 3 ∷ Call.useCount ∷ Call.push c 1 ∷ [];
+      calls = PoolCall.reset ∷ PoolCall.push ab 7 ∷ PoolCall.push b 3 ∷ PoolCall.useCount ∷ PoolCall.push c 1 ∷ [];
       says = (0 ∷ []) ∷ (0 ∷ []) ∷ (0 ∷ []) ∷ (0 ∷ 3 ∷ []) ∷ (4 ∷ []) ∷ [];
       words = 3 ∷ 0 ∷ 1 ∷ 0 ∷ 0 ∷ 97 ∷ 0 ∷ 2 ∷ 3 ∷ 0 ∷ 354 ∷ 7 ∷ 0 ∷ 0 ∷ 1 ∷ 354 ∷ 3 ∷ 0 ∷ 0 ∷ 0 ∷ 9 ∷ 9 ∷ 9 ∷ [];
       holds = (ab, 7) ∷ (b, 3) ∷ [];
     }
     ∷ record {
-      calls = Call.reset ∷ Call.push ab 7 ∷ Call.push b 3 ∷ Call.push ab 9 ∷ [];
+      calls = PoolCall.reset ∷ PoolCall.push ab 7 ∷ PoolCall.push b 3 ∷ PoolCall.push ab 9 ∷ [];
       says = (0 ∷ []) ∷ (0 ∷ []) ∷ (0 ∷ []) ∷ (0 ∷ []) ∷ [];
       words = 3 ∷ 0 ∷ 1 ∷ 0 ∷ 0 ∷ 97 ∷ 0 ∷ 2 ∷ 3 ∷ 0 ∷ 354 ∷ 9 ∷ 0 ∷ 0 ∷ 1 ∷ 354 ∷ 3 ∷ 0 ∷ 0 ∷ 0 ∷ 9 ∷ 9 ∷ 9 ∷ [];
       holds = (ab, 9) ∷ (b, 3) ∷ [];
     }
     ∷ record {
-      calls = Call.reset ∷ Call.push b 3 ∷ Call.push ab 7 ∷ [];
+      calls = PoolCall.reset ∷ PoolCall.push b 3 ∷ PoolCall.push ab 7 ∷ [];
       says = (0 ∷ []) ∷ (0 ∷ []) ∷ (0 ∷ []) ∷ [];
       words = 3 ∷ 0 ∷ 2 ∷ 0 ∷ 0 ∷ 354 ∷ 3 ∷ 0 ∷ 0 ∷ 0 ∷ 97 ∷ 0 ∷ 3 ∷ 1 ∷ 0 ∷ 354 ∷ 7 ∷ 0 ∷ 0 ∷ 2 ∷ 9 ∷ 9 ∷ 9 ∷ [];
       holds = (ab, 7) ∷ (b, 3) ∷ [];
@@ -66,7 +66,7 @@ lines =
     ∷ []
 
 -- what the line's calls say, the words that they leave, and the map that these hold
-pub done : List Call → Line
+pub done : List PoolCall → Line
 done cs = record { calls = cs; says = runSays start cs; words = runPool start cs; holds = poolMap (runPool start cs) }
 
 pub worked-pools : map (λ (l : Line). done (l .calls)) lines ≡ lines

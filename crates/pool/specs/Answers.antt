@@ -4,26 +4,26 @@ use Prim.Native.Nat.{ℕ}
 use mathlib.Core.Bool.{Bool, false}
 use mathlib.Core.List.{List, [], _∷_}
 use lib.Dec.{eqb}
-use Rattle.keymap.specs.Refusals.{Refusal, refusalNumber}
+use Rattle.keymap.specs.Refusals.{Refusal, refuses}
 use Rattle.pool.specs.declared.answers.Cleared.{Cleared}
 use Rattle.pool.specs.declared.answers.Counted.{Counted}
 use Rattle.pool.specs.declared.answers.Pushed.{Pushed}
 
 abbrev pub saidCleared : Cleared → List ℕ
 saidCleared Cleared.Done = 0 ∷ []
-saidCleared Cleared.PoolTooSmall = refusalNumber Refusal.PoolTooSmall ∷ []
+saidCleared Cleared.PoolTooSmall = refuses Refusal.PoolTooSmall
 
 abbrev pub saidCounted : Counted → List ℕ
 saidCounted (Counted.Records n) = 0 ∷ n ∷ []
-saidCounted Counted.PoolTooSmall = refusalNumber Refusal.PoolTooSmall ∷ []
-saidCounted Counted.NotAPool = refusalNumber Refusal.NotAPool ∷ []
+saidCounted Counted.PoolTooSmall = refuses Refusal.PoolTooSmall
+saidCounted Counted.NotAPool = refuses Refusal.NotAPool
 
 abbrev pub saidPushed : Pushed → List ℕ
 saidPushed Pushed.Done = 0 ∷ []
-saidPushed Pushed.PoolTooSmall = refusalNumber Refusal.PoolTooSmall ∷ []
-saidPushed Pushed.NotAPool = refusalNumber Refusal.NotAPool ∷ []
-saidPushed Pushed.EmptyKey = refusalNumber Refusal.EmptyKey ∷ []
-saidPushed Pushed.NoRoom = refusalNumber Refusal.NoRoom ∷ []
+saidPushed Pushed.PoolTooSmall = refuses Refusal.PoolTooSmall
+saidPushed Pushed.NotAPool = refuses Refusal.NotAPool
+saidPushed Pushed.EmptyKey = refuses Refusal.EmptyKey
+saidPushed Pushed.NoRoom = refuses Refusal.NoRoom
 
 -- it is no refusal
 abbrev pub accepted : List ℕ → Bool

@@ -13,13 +13,13 @@ use Rattle.records.specs.Words.{Pool}
 use Rattle.pool.specs.declared.path.Reach.{Reach}
 use Rattle.pool.specs.Siblings.{childAt}
 
-abbrev pub reached : ℕ → ℕ → Reach
-reached i d = record { at = i; depth = d }
+abbrev pub reachAt : ℕ → ℕ → Reach
+reachAt i d = record { at = i; depth = d }
 
 -- from record i on, which d bytes led to
 unfoldable pub reachFrom : Pool → (i d : ℕ) → Key → Reach
-reachFrom p i d [] = reached i d
-reachFrom p i d (b ∷ bs) = cond (eqb (childAt p i b) 0) (reached i d) (reachFrom p (childAt p i b) (d + 1) bs)
+reachFrom p i d [] = reachAt i d
+reachFrom p i d (b ∷ bs) = cond (eqb (childAt p i b) 0) (reachAt i d) (reachFrom p (childAt p i b) (d + 1) bs)
 
 unfoldable pub reachOf : Pool → Key → Reach
 reachOf p key = reachFrom p 0 0 key

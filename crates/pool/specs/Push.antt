@@ -13,7 +13,7 @@ use mathlib.Core.List.{List, [], _∷_}
 use lib.ListN.{length, drop}
 use lib.Dec.{leb, ltb, eqb}
 use Rattle.keymap.specs.Key.{Key}
-use Rattle.keymap.specs.Refusals.{Refusal, refusalNumber}
+use Rattle.keymap.specs.Refusals.{Refusal, refuses}
 use Rattle.records.specs.Words.{Pool, recordWords, usedCount, capacity}
 use Rattle.records.specs.Sound.{Sound}
 use Rattle.records.specs.SoundTest.{soundTest}
@@ -37,12 +37,12 @@ hasRoom p key = leb (usedCount p + missingLabels p key) (capacity p)
 
 unfoldable pub testedSays : Pool → Key → List ℕ
 testedSays p key =
-    cond (eqb (length key) 0) (refusalNumber Refusal.EmptyKey ∷ []) (cond (hasRoom p key) (0 ∷ []) (refusalNumber Refusal.NoRoom ∷ []))
+    cond (eqb (length key) 0) (refuses Refusal.EmptyKey) (cond (hasRoom p key) (0 ∷ []) (refuses Refusal.NoRoom))
 
 unfoldable pub pushSays : Pool → Key → List ℕ
 pushSays p key =
-    cond (ltb (length p) recordWords) (refusalNumber Refusal.PoolTooSmall ∷ [])
-    (cond (soundTest p) (testedSays p key) (refusalNumber Refusal.NotAPool ∷ []))
+    cond (ltb (length p) recordWords) (refuses Refusal.PoolTooSmall)
+    (cond (soundTest p) (testedSays p key) (refuses Refusal.NotAPool))
 
 unfoldable pub pushPool : Pool → Key → ℕ → Pool
 pushPool p key v = cond (accepted (pushSays p key)) (inserted p key v) p

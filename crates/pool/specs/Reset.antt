@@ -5,13 +5,13 @@ use mathlib.Core.Bool.{cond}
 use mathlib.Core.List.{List, [], _∷_}
 use lib.ListN.{length}
 use lib.Dec.{ltb}
-use Rattle.keymap.specs.Refusals.{Refusal, refusalNumber}
+use Rattle.keymap.specs.Refusals.{Refusal, refuses}
 use Rattle.records.specs.Words.{Pool, recordWords}
 use Rattle.pool.specs.Answers.{accepted}
 use Rattle.pool.specs.Writing.{filled}
 
 unfoldable pub resetSays : Pool → List ℕ
-resetSays p = cond (ltb (length p) recordWords) (refusalNumber Refusal.PoolTooSmall ∷ []) (0 ∷ [])
+resetSays p = cond (ltb (length p) recordWords) (refuses Refusal.PoolTooSmall) (0 ∷ [])
 
 unfoldable pub resetPool : Pool → Pool
 resetPool p = cond (accepted (resetSays p)) (filled p 0 0 0 0) p

@@ -5,11 +5,11 @@ use mathlib.Core.Bool.{cond}
 use mathlib.Core.List.{List, [], _∷_}
 use lib.ListN.{length}
 use lib.Dec.{ltb}
-use Rattle.keymap.specs.Refusals.{Refusal, refusalNumber}
+use Rattle.keymap.specs.Refusals.{Refusal, refuses}
 use Rattle.records.specs.Words.{Pool, recordWords, usedCount}
 use Rattle.records.specs.SoundTest.{soundTest}
 
 unfoldable pub useCountSays : Pool → List ℕ
 useCountSays p =
-    cond (ltb (length p) recordWords) (refusalNumber Refusal.PoolTooSmall ∷ [])
-    (cond (soundTest p) (0 ∷ usedCount p ∷ []) (refusalNumber Refusal.NotAPool ∷ []))
+    cond (ltb (length p) recordWords) (refuses Refusal.PoolTooSmall)
+    (cond (soundTest p) (0 ∷ usedCount p ∷ []) (refuses Refusal.NotAPool))

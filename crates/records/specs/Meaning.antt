@@ -13,13 +13,13 @@ use lib.Dec.{eqb}
 use Rattle.keymap.specs.Key.{Key}
 use Rattle.keymap.specs.Map.{Map}
 use Rattle.keymap.specs.Forest.{Forest, empty, node, listTree}
-use Rattle.records.specs.Words.{Pool, label, valueOf, firstChild, nextSibling, lastRecord, InUse}
+use Rattle.records.specs.Words.{Pool, label, recordValue, firstChild, nextSibling, lastRecord, InUse}
 use Rattle.records.specs.Spelling.{Spells}
 
 -- the siblings from record x on, within f steps, each with what `below` has under it
 unfoldable pub siblingsFrom : Pool → (ℕ → Forest) → (f x : ℕ) → Forest
 siblingsFrom p below zero x = empty
-siblingsFrom p below (suc f) x = cond (eqb x 0) empty (node (label p x) (valueOf p x) (below x) (siblingsFrom p below f (nextSibling p x)))
+siblingsFrom p below (suc f) x = cond (eqb x 0) empty (node (label p x) (recordValue p x) (below x) (siblingsFrom p below f (nextSibling p x)))
 
 -- within f levels
 unfoldable pub forestBelow : ℕ → Pool → ℕ → Forest
@@ -36,4 +36,4 @@ pub record Holds (p : Pool) (k : Key) (v : ℕ) : Type 0 where
   pub at : ℕ
   pub used : InUse p at
   pub spelled : Spells p 0 k at
-  pub valued : valueOf p at ≡ some v
+  pub valued : recordValue p at ≡ some v

@@ -1,6 +1,6 @@
 -- A sound pool (01, "Sound means: .."), sentence by sentence. The n of 01 is `lastRecord`, its "record 1 to n" is `InUse`.
 --
---     In            a number stands in a list
+--     Among         a number stands in a list
 --     Chain         the numbers that a step leads to, up to the 0 that ends them
 --     LabelsRise    labels strictly rise
 --     Fits          what is asked of a record in use by its own words
@@ -15,9 +15,9 @@ use Rattle.keymap.specs.Limits.{byteLimit}
 use Rattle.keymap.specs.Label.{mark}
 use Rattle.records.specs.Words.{Pool, recordWords, entry, label, value, firstChild, nextSibling, parent, lastRecord, InUse, Node, capacity}
 
-abbrev pub In : ℕ → List ℕ → Type 0
-In c [] = ⊥
-In c (x ∷ xs) = (c ≡ x) ⊎ In c xs
+abbrev pub Among : ℕ → List ℕ → Type 0
+Among c [] = ⊥
+Among c (x ∷ xs) = (c ≡ x) ⊎ Among c xs
 
 -- from c on, by step f, the numbers met before the first 0 are these
 abbrev pub Chain : (ℕ → ℕ) → ℕ → List ℕ → Type 0
@@ -47,8 +47,8 @@ pub record Children (p : Pool) (c : ℕ) : Type 0 where
   pub kids : List ℕ
   pub chain : Chain (nextSibling p) (firstChild p c) kids
   pub rising : LabelsRise p 0 kids
-  pub only : (x : ℕ) → In x kids → InUse p x × (parent p x ≡ c)
-  pub all : (x : ℕ) → InUse p x → parent p x ≡ c → In x kids
+  pub only : (x : ℕ) → Among x kids → InUse p x × (parent p x ≡ c)
+  pub all : (x : ℕ) → InUse p x → parent p x ≡ c → Among x kids
 
 pub record Sound (p : Pool) : Type 0 where
   -- "five words to the record, record 0 the root"

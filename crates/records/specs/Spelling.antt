@@ -3,7 +3,7 @@
 --     ChildBy       a record is the child of another with a label
 --     Spells        some bytes are the labels on the way from a record down to another
 --     Stops         the first of some bytes leads nowhere from a record
---     pathOf        the labels on the way from the root down to a record, by climbing
+--     recordPath    the labels on the way from the root down to a record, by climbing
 --     Climbs        a record reaches the root through parents in use
 -- Assumes nothing.
 use Prim.Native.Nat.{ℕ, zero, suc}
@@ -13,7 +13,7 @@ use mathlib.Core.List.{List, [], _∷_, _++_}
 use lib.Dec.{eqb}
 use Rattle.keymap.specs.Key.{Key}
 use Rattle.records.specs.Words.{Pool, label, parent, lastRecord, InUse}
-use Rattle.records.specs.Sound.{In, Chain}
+use Rattle.records.specs.Sound.{Among, Chain}
 
 abbrev pub ChildBy : Pool → (i b x : ℕ) → Type 0
 ChildBy p i b x = InUse p x × (parent p x ≡ i) × (label p x ≡ b)
@@ -31,10 +31,10 @@ unfoldable pub pathUp : ℕ → Pool → ℕ → Key
 pathUp zero p c = []
 pathUp (suc f) p c = cond (eqb c 0) [] (pathUp f p (parent p c) ++ (label p c ∷ []))
 
-unfoldable pub pathOf : Pool → ℕ → Key
-pathOf p c = pathUp (lastRecord p) p c
+unfoldable pub recordPath : Pool → ℕ → Key
+recordPath p c = pathUp (lastRecord p) p c
 
 pub record Climbs (p : Pool) (c : ℕ) : Type 0 where
   pub up : List ℕ
   pub chain : Chain (parent p) c up
-  pub used : (x : ℕ) → In x up → InUse p x
+  pub used : (x : ℕ) → Among x up → InUse p x

@@ -52,8 +52,8 @@ abbrev pub value : Pool → ℕ → ℕ
 value p c = word p c 1
 
 -- the value, if the record is marked as having one
-abbrev pub valueOf : Pool → ℕ → Option ℕ
-valueOf p c = valueIn (entry p c) (value p c)
+abbrev pub recordValue : Pool → ℕ → Option ℕ
+recordValue p c = valueIn (entry p c) (value p c)
 
 abbrev pub firstChild : Pool → ℕ → ℕ
 firstChild p c = word p c 2

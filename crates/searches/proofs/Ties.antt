@@ -3,7 +3,7 @@
 use mathlib.Core.Path.{_≡_}
 use denote.Ref.{now}
 use Rattle.keymap.specs.Contract.{Tells}
-use Rattle.image.specs.Meaning.{lent}
+use Rattle.image.specs.Meaning.{imageIn}
 use Rattle.searches.specs.Answers.{saidLooked, saidPrefixed, saidLongest, saidCommon}
 use Rattle.searches.specs.Exact.{exactSays, setValues, isPrefixSays}
 use Rattle.searches.specs.Prefix.{longestSays, longestOut}
@@ -24,23 +24,23 @@ use Rattle.searches.proofs.common_prefixes.common_prefix_part.Reads as 
 use Rattle.searches.proofs.prefix.longest_prefix.Kinds as longest-prefix-kinds
 use Rattle.searches.proofs.prefix.longest_prefix.Reads as longest-prefix-reads
 
-pub exact-match-says : Tells 4 exact-match-kinds.ps exact-match-kinds.r exact-match-reads.Post (λ κs a r s. saidLooked r ≡ exactSays (lent (now (a .0)) (now (a .1 .0)) (now (a .1 .1 .0))) (now (a .1 .1 .1 .0)))
+pub exact-match-says : Tells 4 exact-match-kinds.ps exact-match-kinds.r exact-match-reads.Post (λ κs a r s. saidLooked r ≡ exactSays (imageIn (a .0) (a .1 .0) (a .1 .1 .0)) (now (a .1 .1 .1 .0)))
 exact-match-says κs a r s p = p
 
-pub exact-match-untested-says : Tells 4 exact-match-untested-kinds.ps exact-match-untested-kinds.r exact-match-untested-reads.Post (λ κs a r s. saidLooked r ≡ untestedSays (lent (now (a .0)) (now (a .1 .0)) (now (a .1 .1 .0))) (now (a .1 .1 .1 .0)))
+pub exact-match-untested-says : Tells 4 exact-match-untested-kinds.ps exact-match-untested-kinds.r exact-match-untested-reads.Post (λ κs a r s. saidLooked r ≡ untestedSays (imageIn (a .0) (a .1 .0) (a .1 .1 .0)) (now (a .1 .1 .1 .0)))
 exact-match-untested-says κs a r s p = p
 
-pub set-value-says : Tells 4 set-value-kinds.ps set-value-kinds.r set-value-reads.Post (λ κs a r s. (saidLooked r ≡ exactSays (lent (now (a .0)) (now (a .1 .0)) (now (a .1 .1 .0))) (now (a .1 .1 .1 .0))) × (now (s .1 .0) ≡ setValues (lent (now (a .0)) (now (a .1 .0)) (now (a .1 .1 .0))) (now (a .1 .1 .1 .0)) (a .1 .1 .1 .1 .0)))
+pub set-value-says : Tells 4 set-value-kinds.ps set-value-kinds.r set-value-reads.Post (λ κs a r s. (saidLooked r ≡ exactSays (imageIn (a .0) (a .1 .0) (a .1 .1 .0)) (now (a .1 .1 .1 .0))) × (now (s .1 .0) ≡ setValues (imageIn (a .0) (a .1 .0) (a .1 .1 .0)) (now (a .1 .1 .1 .0)) (a .1 .1 .1 .1 .0)))
 set-value-says κs a r s p = p
 
-pub is-prefix-says : Tells 4 is-prefix-kinds.ps is-prefix-kinds.r is-prefix-reads.Post (λ κs a r s. saidPrefixed r ≡ isPrefixSays (lent (now (a .0)) (now (a .1 .0)) (now (a .1 .1 .0))) (now (a .1 .1 .1 .0)))
+pub is-prefix-says : Tells 4 is-prefix-kinds.ps is-prefix-kinds.r is-prefix-reads.Post (λ κs a r s. saidPrefixed r ≡ isPrefixSays (imageIn (a .0) (a .1 .0) (a .1 .1 .0)) (now (a .1 .1 .1 .0)))
 is-prefix-says κs a r s p = p
 
-pub common-prefix-says : Tells 4 common-prefix-kinds.ps common-prefix-kinds.r common-prefix-reads.Post (λ κs a r s. saidCommon r ≡ commonSays (lent (now (a .0)) (now (a .1 .0)) (now (a .1 .1 .0))) (now (a .1 .1 .1 .0)) (a .1 .1 .1 .1 .0))
+pub common-prefix-says : Tells 4 common-prefix-kinds.ps common-prefix-kinds.r common-prefix-reads.Post (λ κs a r s. saidCommon r ≡ commonSays (imageIn (a .0) (a .1 .0) (a .1 .1 .0)) (now (a .1 .1 .1 .0)) (a .1 .1 .1 .1 .0))
 common-prefix-says κs a r s p = p
 
-pub common-prefix-part-says : Tells 4 common-prefix-part-kinds.ps common-prefix-part-kinds.r common-prefix-part-reads.Post (λ κs a r s. (now r ≡ commonPart (lent (now (a .0)) (now (a .1 .0)) (now (a .1 .1 .0))) (now (a .1 .1 .1 .0)) (a .1 .1 .1 .1 .0)) × (r .ptr ≡ a .1 .1 .1 .0 .ptr))
+pub common-prefix-part-says : Tells 4 common-prefix-part-kinds.ps common-prefix-part-kinds.r common-prefix-part-reads.Post (λ κs a r s. (now r ≡ commonPart (imageIn (a .0) (a .1 .0) (a .1 .1 .0)) (now (a .1 .1 .1 .0)) (a .1 .1 .1 .1 .0)) × (r .ptr ≡ a .1 .1 .1 .0 .ptr))
 common-prefix-part-says κs a r s p = p
 
-pub longest-prefix-says : Tells 5 longest-prefix-kinds.ps longest-prefix-kinds.r longest-prefix-reads.Post (λ κs a r s. (saidLongest r ≡ longestSays (lent (now (a .0)) (now (a .1 .0)) (now (a .1 .1 .0))) (now (a .1 .1 .1 .0)) (now (a .1 .1 .1 .1 .0))) × (now (s .1 .1 .1 .1 .0) ≡ longestOut (lent (now (a .0)) (now (a .1 .0)) (now (a .1 .1 .0))) (now (a .1 .1 .1 .0)) (now (a .1 .1 .1 .1 .0))))
+pub longest-prefix-says : Tells 5 longest-prefix-kinds.ps longest-prefix-kinds.r longest-prefix-reads.Post (λ κs a r s. (saidLongest r ≡ longestSays (imageIn (a .0) (a .1 .0) (a .1 .1 .0)) (now (a .1 .1 .1 .0)) (now (a .1 .1 .1 .1 .0))) × (now (s .1 .1 .1 .1 .0) ≡ longestOut (imageIn (a .0) (a .1 .0) (a .1 .1 .0)) (now (a .1 .1 .1 .0)) (now (a .1 .1 .1 .1 .0))))
 longest-prefix-says κs a r s p = p

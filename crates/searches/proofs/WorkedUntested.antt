@@ -9,7 +9,7 @@ use Rattle.louds.specs.Rank.{gap}
 use Rattle.louds.specs.Select.{kth}
 use Rattle.louds.specs.Nodes.{orEnd, runFrom, childrenOf}
 use Rattle.image.specs.AcceptTest.{lengthsFit}
-use Rattle.image.specs.Meaning.{lent}
+use Rattle.image.specs.Meaning.{asImage}
 use Rattle.walks.specs.Rule.{matches, isChildBy, lowestBy, childBy, walkedFrom, valueOfNode}
 use Rattle.searches.specs.Untested.{untestedSays}
 
@@ -17,7 +17,7 @@ abbrev Case : Type 0
 Case = List ℕ × List ℕ × List ℕ × Key × List ℕ
 
 abbrev answers : List Case → List Case
-answers = map (λ (c : Case). (c .0, c .1, c .2, c .3, untestedSays (lent (c .0) (c .1) (c .2)) (c .3)))
+answers = map (λ (c : Case). (c .0, c .1, c .2, c .3, untestedSays (asImage (c .0) (c .1) (c .2)) (c .3)))
 
 -- the labels of map A: "a", "b" and "ab"
 abbrev a3 : List ℕ

@@ -20,7 +20,7 @@ use Rattle.keymap.specs.Image.{Image, bitsFor}
 use Rattle.louds.specs.declared.Kids.{Kids}
 use Rattle.louds.specs.declared.Kids.the-variants.{Run, NoNode}
 use Rattle.louds.specs.Nodes.{childrenOf}
-use Rattle.image.specs.Accept.{entries, entryOf, valueOf}
+use Rattle.image.specs.Accept.{entries, nodeEntry, nodeValue}
 use Rattle.image.specs.AcceptTest.{lengthsFit}
 use Rattle.walks.specs.Rule.{counts, isChildBy, stepBy, nodeBy, foundBy}
 
@@ -73,9 +73,9 @@ pub record AgreeOn (i j : Image) (q : Key) (ms : List ℕ) : Type 0 where
   -- "and bits"
   pub bits : (p : ℕ) → p < bitsFor (entries i) → bit (i .words) p ≡ bit (j .words) p
   -- "agreeing on the entries of the siblings met"
-  pub siblings : (m : ℕ) → In m ms → entryOf i m ≡ entryOf j m
+  pub siblings : (m : ℕ) → In m ms → nodeEntry i m ≡ nodeEntry j m
   -- "and on the value found"
-  pub value : (m v : ℕ) → nodeBy i q ≡ some m → foundBy i q ≡ some v → valueOf j m ≡ v
+  pub value : (m v : ℕ) → nodeBy i q ≡ some m → foundBy i q ≡ some v → nodeValue j m ≡ v
 
 abbrev pub Alike : Image → Image → Key → Type 0
 Alike i j q = AgreeOn i j q (met i q)

@@ -5,11 +5,11 @@ use Prim.Native.Nat.{ℕ}
 use mathlib.Core.Bool.{cond}
 use mathlib.Core.List.{List, [], _∷_}
 use Rattle.keymap.specs.Key.{Key}
-use Rattle.keymap.specs.Refusals.{refusalNumber, NotAnImage}
+use Rattle.keymap.specs.Refusals.{refuses, NotAnImage}
 use Rattle.keymap.specs.Answers.{saysValue}
 use Rattle.keymap.specs.Image.{Image}
 use Rattle.image.specs.AcceptTest.{lengthsFit}
 use Rattle.walks.specs.Rule.{foundBy}
 
 unfoldable pub untestedSays : Image → Key → List ℕ
-untestedSays i q = cond (lengthsFit i) (saysValue (foundBy i q)) (refusalNumber NotAnImage ∷ [])
+untestedSays i q = cond (lengthsFit i) (saysValue (foundBy i q)) (refuses NotAnImage)

@@ -2,7 +2,7 @@
 // A seen length at or past the query's end gives no match, and nothing is added to it.
 ghost use mathlib.Core.Path.{_≡_};
 ghost use mathlib.Core.Option.{some};
-ghost use Rattle.image.specs.Meaning.{lent};
+ghost use Rattle.image.specs.Meaning.{lentImage};
 ghost use Rattle.walks.specs.Rule.{valueOfNode};
 ghost use Rattle.walks.specs.Stands.{heldOf};
 ghost use Rattle.searches.specs.Answers.{saidCommon};
@@ -30,7 +30,7 @@ fn shortest(labels: &[u16], values: &[u32], words: &[u64], query: &[u8], seen: u
     ensures { λ r.
         ⌜
         r
-        ≡ matchOf (shortestFrom (lent (now (labels .entry)) (now (values .entry)) (now (words .entry))) seen (now (query .entry)) 0 (some 1))
+        ≡ matchOf (shortestFrom (lentImage labels values words) seen (now (query .entry)) 0 (some 1))
         ⌝ }
 {
     let len = 2 * labels.len() + 3;
@@ -63,7 +63,7 @@ pub fn common_prefix(
     query: &[u8],
     seen: usize,
 ) -> Common
-    ensures answer { λ r. ⌜ saidCommon r ≡ commonSays (lent (now (labels .entry)) (now (values .entry)) (now (words .entry))) (now (query .entry)) seen ⌝ }
+    ensures answer { λ r. ⌜ saidCommon r ≡ commonSays (lentImage labels values words) (now (query .entry)) seen ⌝ }
 {
     if !is_image(labels, values, words) {
         return Common::NotAnImage;
@@ -89,7 +89,7 @@ pub fn common_prefix_part<'a>(
     query: &'a [u8],
     seen: usize,
 ) -> &'a [u8]
-    ensures part { λ r. ⌜ now r ≡ commonPart (lent (now (labels .entry)) (now (values .entry)) (now (words .entry))) (now (query .entry)) seen ⌝ }
+    ensures part { λ r. ⌜ now r ≡ commonPart (lentImage labels values words) (now (query .entry)) seen ⌝ }
     ensures leading { λ r. ⌜ r .ptr ≡ query .entry .ptr ⌝ }
 {
     let found = common_prefix(labels, values, words, query, seen);

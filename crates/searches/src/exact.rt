@@ -1,7 +1,7 @@
 // The value of a key, after `src/map/trie.rs`: `exact_match`; `set_value`, which is its `exact_match_mut`; and `is_prefix`.
 // The image is tested before anything else, so a refused image answers NotAnImage for the empty query too.
 ghost use mathlib.Core.Path.{_≡_};
-ghost use Rattle.image.specs.Meaning.{lent};
+ghost use Rattle.image.specs.Meaning.{lentImage};
 ghost use Rattle.searches.specs.Answers.{saidLooked, saidPrefixed};
 ghost use Rattle.searches.specs.Exact.{keyedIn, goesOn, exactSays, setValues, isPrefixSays};
 use crate::answers::Looked;
@@ -23,7 +23,7 @@ pub enum Keyed {
 
 // The node and the value of a key, by R-7's rule: the image is not tested.
 pub fn find(labels: &[u16], values: &[u32], words: &[u64], query: &[u8]) -> Keyed
-    ensures { λ r. ⌜ r ≡ keyedIn (lent (now (labels .entry)) (now (values .entry)) (now (words .entry))) (now (query .entry)) ⌝ }
+    ensures { λ r. ⌜ r ≡ keyedIn (lentImage labels values words) (now (query .entry)) ⌝ }
 {
     let len = 2 * labels.len() + 3;
     let Child::Node(node) = end_of(labels, words, len, query) else {
@@ -37,7 +37,7 @@ pub fn find(labels: &[u16], values: &[u32], words: &[u64], query: &[u8]) -> Keye
 
 // The value of a key. The empty query is no key.
 pub fn exact_match(labels: &[u16], values: &[u32], words: &[u64], query: &[u8]) -> Looked
-    ensures answer { λ r. ⌜ saidLooked r ≡ exactSays (lent (now (labels .entry)) (now (values .entry)) (now (words .entry))) (now (query .entry)) ⌝ }
+    ensures answer { λ r. ⌜ saidLooked r ≡ exactSays (lentImage labels values words) (now (query .entry)) ⌝ }
 {
     if !is_image(labels, values, words) {
         return Looked::NotAnImage;
@@ -56,11 +56,11 @@ pub fn set_value(
     query: &[u8],
     value: u32,
 ) -> Looked
-    ensures answer { λ r. ⌜ saidLooked r ≡ exactSays (lent (now (labels .entry)) (now (values .entry)) (now (words .entry))) (now (query .entry)) ⌝ }
+    ensures answer { λ r. ⌜ saidLooked r ≡ exactSays (lentImage labels values words) (now (query .entry)) ⌝ }
     ensures written { λ r.
         ⌜
         now (values .exit)
-        ≡ setValues (lent (now (labels .entry)) (now (values .entry)) (now (words .entry))) (now (query .entry)) value
+        ≡ setValues (lentImage labels values words) (now (query .entry)) value
         ⌝ }
 {
     if !is_image(labels, values, words) {
@@ -87,7 +87,7 @@ fn goes_on(labels: &[u16], words: &[u64], query: &[u8]) -> bool
 
 // Whether some key begins with a query and is longer.
 pub fn is_prefix(labels: &[u16], values: &[u32], words: &[u64], query: &[u8]) -> Prefixed
-    ensures answer { λ r. ⌜ saidPrefixed r ≡ isPrefixSays (lent (now (labels .entry)) (now (values .entry)) (now (words .entry))) (now (query .entry)) ⌝ }
+    ensures answer { λ r. ⌜ saidPrefixed r ≡ isPrefixSays (lentImage labels values words) (now (query .entry)) ⌝ }
 {
     if !is_image(labels, values, words) {
         return Prefixed::NotAnImage;

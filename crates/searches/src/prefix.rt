@@ -1,6 +1,6 @@
 // What the keys that begin with a query have in common: `longest_prefix` of `src/map/trie.rs`.
 ghost use mathlib.Core.Path.{_≡_};
-ghost use Rattle.image.specs.Meaning.{lent};
+ghost use Rattle.image.specs.Meaning.{lentImage};
 ghost use Rattle.searches.specs.Answers.{saidLongest};
 ghost use Rattle.searches.specs.Prefix.{longestSays, longestOut};
 use crate::answers::Longest;
@@ -18,8 +18,8 @@ pub fn longest_prefix(
     query: &[u8],
     out: &mut [u8],
 ) -> Longest
-    ensures answer { λ r. ⌜ saidLongest r ≡ longestSays (lent (now (labels .entry)) (now (values .entry)) (now (words .entry))) (now (query .entry)) (now (out .entry)) ⌝ }
-    ensures written { λ _. ⌜ now (out .exit) ≡ longestOut (lent (now (labels .entry)) (now (values .entry)) (now (words .entry))) (now (query .entry)) (now (out .entry)) ⌝ }
+    ensures answer { λ r. ⌜ saidLongest r ≡ longestSays (lentImage labels values words) (now (query .entry)) (now (out .entry)) ⌝ }
+    ensures written { λ _. ⌜ now (out .exit) ≡ longestOut (lentImage labels values words) (now (query .entry)) (now (out .entry)) ⌝ }
 {
     if !is_image(labels, values, words) {
         return Longest::NotAnImage;

@@ -11,7 +11,7 @@ use native.Mathlib.Omega.{arith}
 use lib.ListN.{length, take}
 use Rattle.keymap.specs.Map.{Map, Catalogue}
 use Rattle.keymap.specs.Prefixes.{prefixes}
-use Rattle.keymap.specs.Refusals.{Refusal, refusalNumber}
+use Rattle.keymap.specs.Refusals.{Refusal, refuses}
 use Rattle.keymap.specs.Bits.{wordsFor, pack}
 use Rattle.keymap.specs.Image.{bitsFor, image, imageBits}
 use Rattle.keymap.proofs.Laws.Image.{length-imageLabels, length-imageValues, length-imageBits}
@@ -20,7 +20,7 @@ use Rattle.records.specs.Words.{Pool, capacity}
 use Rattle.records.specs.Sound.{Sound}
 use Rattle.records.specs.Meaning.{poolMap}
 use Rattle.pool.specs.Answers.{accepted}
-use Rattle.pool.specs.History.{Call as PoolCall, AllLent, callPool, runPool}
+use Rattle.pool.specs.History.{PoolCall as PoolCall, AllLent, callPool, runPool}
 use Rattle.pool.proofs.Laws.History.{call-sound, call-capacity}
 use Rattle.image.specs.Build.{buffersFit, fitSays, buildSays}
 use Rattle.keymap.specs.Buffers.{over}
@@ -42,7 +42,7 @@ fit-count n m labels values words scratch h = go (buffersFit m labels values wor
   where
     go : (t : Bool) → buffersFit m labels values words scratch ≡ t → n ≡ m
     go true e = let g : 0 ∷ m ∷ [] ≡ 0 ∷ n ∷ [] = rw e at h in cc
-    go false e = let g : refusalNumber Refusal.OutTooSmall ∷ [] ≡ 0 ∷ n ∷ [] = rw e at h in let z : _≡_ {A = ℕ} 0 5 = cc in absurd (omega arith)
+    go false e = let g : refuses Refusal.OutTooSmall ≡ 0 ∷ n ∷ [] = rw e at h in let z : _≡_ {A = ℕ} 0 5 = cc in absurd (omega arith)
 
 -- what lies over the front of a buffer is its leading part
 front : (n : ℕ) (xs ys : List ℕ) (after : List ℕ) → n ≡ length xs → after ≡ over xs ys → take n after ≡ xs

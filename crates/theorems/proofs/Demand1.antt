@@ -16,7 +16,7 @@ use borrow.Author.Tests.{ne-eqb}
 use Rattle.keymap.specs.Key.{Key}
 use Rattle.keymap.specs.Map.{Entry, Map, lookup}
 use Rattle.keymap.specs.Queries.{longer, isPrefixIn, longestPrefixIn, commonPrefixIn}
-use Rattle.keymap.specs.Refusals.{Refusal}
+use Rattle.keymap.specs.Refusals.{Refusal, refuses}
 use Rattle.keymap.specs.Image.{Image}
 use Rattle.keymap.specs.Paths.{isNode, pathOf, nodeOf, isPath}
 use Rattle.keymap.specs.Decode.{imageMap}
@@ -58,7 +58,7 @@ use Rattle.searches.proofs.Laws.Prefix.{longest-refused}
 use Rattle.listings.proofs.Laws.Cursors.{startSays-refused, stepSays-refused}
 use Rattle.listings.proofs.Laws.GivenKey.{key-refused}
 use Rattle.places.proofs.Laws.Places.{prefix-refused}
-use Rattle.theorems.specs.Demand1.{refuses, EveryDamaged, EveryPool, SoundPool, RefusalKeeps}
+use Rattle.theorems.specs.Demand1.{EveryDamaged, EveryPool, SoundPool, RefusalKeeps}
 
 -- ---- what is damaged
 

@@ -16,7 +16,7 @@ use Rattle.keymap.specs.Members.{In}
 use Rattle.keymap.specs.Key.{Key}
 use Rattle.keymap.specs.Map.{Map, Catalogue, insert}
 use Rattle.keymap.specs.Prefixes.{prefixes}
-use Rattle.keymap.specs.Refusals.{Refusal, refusalNumber}
+use Rattle.keymap.specs.Refusals.{Refusal, refuses}
 use Rattle.keymap.specs.Image.{image}
 use Rattle.keymap.specs.Paths.{pathOf}
 use Rattle.keymap.proofs.Laws.Prefixes.{prefixes-iff, prefixes-distinct}
@@ -29,7 +29,7 @@ use Rattle.records.proofs.Laws.Meaning.{map-prefixes, count-prefixes}
 use Rattle.pool.specs.Answers.{accepted}
 use Rattle.pool.specs.Reset.{resetPool}
 use Rattle.pool.specs.Push.{pushSays}
-use Rattle.pool.specs.History.{Call as PoolCall, AllLent, mapSays}
+use Rattle.pool.specs.History.{PoolCall as PoolCall, AllLent, mapSays}
 use Rattle.pool.proofs.Laws.Reset.{reset-done, reset-sound, length-reset}
 use Rattle.pool.proofs.Laws.History.{call-says, reset-run-sound, reset-run-map, reset-run-within}
 use Rattle.image.specs.History.{Call, poolCalls}
@@ -41,7 +41,7 @@ use Rattle.theorems.specs.Demand3.{Exceeds, EveryHistory, MapAlone}
 use Rattle.theorems.proofs.Built.{run-capacity, built-image}
 
 -- a push of a nonempty key, by whether the prefixes would be too many
-push-room : (most : ℕ) (m : Map) (k : Key) (v : ℕ) → ¬ (k ≡ []) → (mapSays most m (PoolCall.push k v) ≡ refusalNumber Refusal.NoRoom ∷ []) ↔ Exceeds (length (prefixes (insert k v m))) most
+push-room : (most : ℕ) (m : Map) (k : Key) (v : ℕ) → ¬ (k ≡ []) → (mapSays most m (PoolCall.push k v) ≡ refuses Refusal.NoRoom) ↔ Exceeds (length (prefixes (insert k v m))) most
 push-room most m [] v n = absurd (n refl)
 push-room most m (b ∷ k) v n = go (leb size most) refl
   where
@@ -51,7 +51,7 @@ push-room most m (b ∷ k) v n = go (leb size most) refl
     some : eqb (length (b ∷ k)) 0 ≡ false
     some = ne-eqb (length (b ∷ k)) 0 (λ e. omega arith)
 
-    go : (t : Bool) → leb size most ≡ t → (mapSays most m (PoolCall.push (b ∷ k) v) ≡ refusalNumber Refusal.NoRoom ∷ []) ↔ Exceeds size most
+    go : (t : Bool) → leb size most ≡ t → (mapSays most m (PoolCall.push (b ∷ k) v) ≡ refuses Refusal.NoRoom) ↔ Exceeds size most
     go true e =
         let done : mapSays most m (PoolCall.push (b ∷ k) v) ≡ 0 ∷ [] = rw (some, e) in
         (λ h. let z : _≡_ {A = ℕ} 0 4 = cc in absurd (omega arith), λ h. absurd (omega (arith, leb-true size most e)))
@@ -76,7 +76,7 @@ module _ (p : Pool) (h : recordWords ≤ length p) (cs : List Call) (lent : AllL
   says : (c : PoolCall) → mapSays (capacity (poolAfter p cs)) (poolMap (poolAfter p cs)) c ≡ mapSays (capacity p) (mapAfter p cs) c
   says c = let n = same in let m = holds in λ i. mapSays (n i) (m i) c
 
-  room : (k : Key) → ¬ (k ≡ []) → (v : ℕ) → (pushSays (poolAfter p cs) k ≡ refusalNumber Refusal.NoRoom ∷ []) ↔ Exceeds (length (prefixes (insert k v (mapAfter p cs)))) (capacity p)
+  room : (k : Key) → ¬ (k ≡ []) → (v : ℕ) → (pushSays (poolAfter p cs) k ≡ refuses Refusal.NoRoom) ↔ Exceeds (length (prefixes (insert k v (mapAfter p cs)))) (capacity p)
   room k n v =
       let told = call-says (poolAfter p cs) sound (PoolCall.push k v) ∙ says (PoolCall.push k v) in
       let (from, to) = push-room (capacity p) (mapAfter p cs) k v n in
@@ -88,16 +88,16 @@ module _ (p : Pool) (h : recordWords ≤ length p) (cs : List Call) (lent : AllL
       subst (λ (m : Map). (n ≡ length (prefixes m)) × (builtImage n (poolAfter p cs) ls vs ws qs ≡ image m)) holds
       (built-image (poolAfter p cs) sound (subst Catalogue (sym holds) catalogue) n ls vs ws qs e)
 
-  records : (k : Key) → In k (prefixes (mapAfter p cs)) ↔ ((c : ℕ) × InUse (poolAfter p cs) c × (k ≡ spelling.pathOf (poolAfter p cs) c))
+  records : (k : Key) → In k (prefixes (mapAfter p cs)) ↔ ((c : ℕ) × InUse (poolAfter p cs) c × (k ≡ spelling.recordPath (poolAfter p cs) c))
   records k = rw (← holds) (map-prefixes (poolAfter p cs) sound k)
 
-  apart : (c d : ℕ) → InUse (poolAfter p cs) c → InUse (poolAfter p cs) d → spelling.pathOf (poolAfter p cs) c ≡ spelling.pathOf (poolAfter p cs) d → c ≡ d
+  apart : (c d : ℕ) → InUse (poolAfter p cs) c → InUse (poolAfter p cs) d → spelling.recordPath (poolAfter p cs) c ≡ spelling.recordPath (poolAfter p cs) d → c ≡ d
   apart c d u v e =
-      spells-one-record (poolAfter p cs) (sound .children) 0 (spelling.pathOf (poolAfter p cs) c) c d (inl refl) (path-spells (poolAfter p cs) sound c (inr u))
+      spells-one-record (poolAfter p cs) (sound .children) 0 (spelling.recordPath (poolAfter p cs) c) c d (inl refl) (path-spells (poolAfter p cs) sound c (inr u))
       (subst (λ (k : Key). spelling.Spells (poolAfter p cs) 0 k d) (sym e) (path-spells (poolAfter p cs) sound d (inr v)))
 
   scratch : (n : ℕ) (ls vs ws qs : List ℕ) → buildSays (poolAfter p cs) ls vs ws qs ≡ 0 ∷ n ∷ [] → (j : ℕ) → j < n
-      → InUse (poolAfter p cs) (getD (buildScratch (poolAfter p cs) ls vs ws qs) j 0) × (spelling.pathOf (poolAfter p cs) (getD (buildScratch (poolAfter p cs) ls vs ws qs) j 0) ≡ pathOf (mapAfter p cs) (suc (suc j)))
+      → InUse (poolAfter p cs) (getD (buildScratch (poolAfter p cs) ls vs ws qs) j 0) × (spelling.recordPath (poolAfter p cs) (getD (buildScratch (poolAfter p cs) ls vs ws qs) j 0) ≡ pathOf (mapAfter p cs) (suc (suc j)))
   scratch n ls vs ws qs e j l =
       let many : n ≡ usedCount (poolAfter p cs) = builds n ls vs ws qs e .0 ∙ ap (λ (m : Map). length (prefixes m)) (sym holds) ∙ count-prefixes (poolAfter p cs) sound in
       let (used, path) = scratch-node (poolAfter p cs) sound ls vs ws qs (ap accepted e) j (omega arith) in

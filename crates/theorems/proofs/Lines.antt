@@ -16,7 +16,7 @@ use lib.Dec.{ltb}
 use borrow.Author.Tests.{ltb-true, lt-ltb, le-ltb}
 use Rattle.keymap.specs.Buffers.{over}
 use Rattle.keymap.specs.Map.{Entry}
-use Rattle.keymap.specs.Refusals.{Refusal, refusalNumber}
+use Rattle.keymap.specs.Refusals.{Refusal, refuses}
 use Rattle.lines.specs.Decimal.{valueAfter, isDecimal, numberIn}
 use Rattle.lines.specs.TabLine.{entrySays, entryKey, tabEntry, tabLineSays, tabLineKey}
 use Rattle.lines.specs.Writing.{tabLine, tabText, Plain, writeLineSays, writeLineOut}
@@ -45,7 +45,7 @@ said-entry (some d) e h =
     let key : d .0 ≡ e .0 = h .1 in
     λ i. some (key i, value i)
 
-said-none : (o : Option Entry) → entrySays o ≡ refusalNumber Refusal.BadLine ∷ [] → o ≡ none
+said-none : (o : Option Entry) → entrySays o ≡ refuses Refusal.BadLine → o ≡ none
 said-none none h = refl
 said-none (some e) h = absurd (let said : 0 ∷ length (e .0) ∷ e .1 ∷ [] ≡ 9 ∷ [] = h in let z : _≡_ {A = ℕ} 0 9 = cc in omega arith)
 
@@ -56,14 +56,14 @@ read-line line e = (
   λ h. let t = tabEntry-iff line e .1 h in (ap entrySays t, ap entryKey t),
 )
 
-bad-line : (line : List ℕ) → (tabLineSays line ≡ refusalNumber Refusal.BadLine ∷ []) ↔ ((e : Entry) → Plain e → line ≡ tabLine e → ⊥)
+bad-line : (line : List ℕ) → (tabLineSays line ≡ refuses Refusal.BadLine) ↔ ((e : Entry) → Plain e → line ≡ tabLine e → ⊥)
 unfolding tabLineSays
 bad-line line = (
   λ h e p w. Option·none-ne-some e (sym (said-none (tabEntry line) h) ∙ tabEntry-iff line e .1 (p, w)),
   λ h. go h (tabEntry line) refl,
 )
   where
-    go : ((e : Entry) → Plain e → line ≡ tabLine e → ⊥) → (o : Option Entry) → tabEntry line ≡ o → entrySays (tabEntry line) ≡ refusalNumber Refusal.BadLine ∷ []
+    go : ((e : Entry) → Plain e → line ≡ tabLine e → ⊥) → (o : Option Entry) → tabEntry line ≡ o → entrySays (tabEntry line) ≡ refuses Refusal.BadLine
     go h none t = ap entrySays t
     go h (some e) t = let (p, w) = tabEntry-iff line e .0 t in absurd (h e p w)
 
@@ -77,7 +77,7 @@ every-write e out = record {
   writes = λ h. (rw (le-ltb _ _ h), rw (le-ltb _ _ h));
 }
   where
-    go : writeLineSays e out ≡ refusalNumber Refusal.KeyRoom ∷ [] → (b : Bool) → ltb (length out) (length (tabText e)) ≡ b → length out < length (tabText e)
+    go : writeLineSays e out ≡ refuses Refusal.KeyRoom → (b : Bool) → ltb (length out) (length (tabText e)) ≡ b → length out < length (tabText e)
     go h true t = ltb-true _ _ t
     go h false t = absurd (let said : 0 ∷ length (tabText e) ∷ [] ≡ 8 ∷ [] = rw t at h in let z : _≡_ {A = ℕ} 0 8 = cc in omega arith)
 

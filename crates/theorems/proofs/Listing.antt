@@ -26,7 +26,7 @@ use Rattle.listings.specs.declared.answers.Cursor.the-variants.{Open, Finished}
 use Rattle.listings.specs.Answers.{saidCursor}
 use Rattle.listings.specs.Cursors.{setOf, startSays, saysEnd, saysStep, stepSays}
 use Rattle.listings.proofs.Laws.Cursors.{setOf-rising, top-node, belongs-fresh, belongs-at, nextIn-at, startSays-accepted, stepSays-finished, stepSays-open}
-use Rattle.theorems.specs.Listing.{heardCursor, nextCursor, stepsSay, listingSays, saysEntry, givenIn, listingIn}
+use Rattle.theorems.specs.Listing.{heardCursor, heardNext, stepsSay, listingSays, saysEntry, givenIn, listingIn}
 
 -- a cursor's numbers tell it
 heard-cursor : (c : Cursor) → heardCursor (saidCursor c) ≡ c
@@ -35,18 +35,18 @@ heard-cursor (Open Postfix top last) = refl
 heard-cursor (Finished Predictive) = refl
 heard-cursor (Finished Postfix) = refl
 
-next-end : (kind : Kind) (c : Cursor) → nextCursor (saysEnd kind) c ≡ Finished kind
+next-end : (kind : Kind) (c : Cursor) → heardNext (saysEnd kind) c ≡ Finished kind
 next-end kind c = heard-cursor (Finished kind)
 
-next-entry : (m : Map) (kind : Kind) (q : Key) (e : Entry) (c : Cursor) → nextCursor (saysEntry m kind q e) c ≡ Open kind (nodeOf m q) (nodeOf m (e .0))
+next-entry : (m : Map) (kind : Kind) (q : Key) (e : Entry) (c : Cursor) → heardNext (saysEntry m kind q e) c ≡ Open kind (nodeOf m q) (nodeOf m (e .0))
 unfolding nodeOf
 next-entry m kind q e c = heard-cursor (Open kind (nodeOf m q) (nodeOf m (e .0)))
 
 -- steps that begin with a known one
-steps-on : (k : ℕ) (i : Image) (c d : Cursor) (says : List ℕ) (rest : List (List ℕ)) → stepSays i c ≡ says → nextCursor says c ≡ d → stepsSay k i d ≡ rest → stepsSay (suc k) i c ≡ says ∷ rest
+steps-on : (k : ℕ) (i : Image) (c d : Cursor) (says : List ℕ) (rest : List (List ℕ)) → stepSays i c ≡ says → heardNext says c ≡ d → stepsSay k i d ≡ rest → stepsSay (suc k) i c ≡ says ∷ rest
 unfolding stepsSay
 steps-on k i c d says rest s n r =
-    let goes = ap (λ (x : List ℕ). stepsSay k i (nextCursor x c)) s ∙ ap (stepsSay k i) n ∙ r in
+    let goes = ap (λ (x : List ℕ). stepsSay k i (heardNext x c)) s ∙ ap (stepsSay k i) n ∙ r in
     λ j. s j ∷ goes j
 
 -- what k steps give of some entries, by cases

@@ -14,7 +14,7 @@ use Rattle.pool.specs.Reset.{resetPool}
 use Rattle.pool.specs.History.{AllLent, runPool, mapRun, pushesOf}
 use Rattle.pool.proofs.Laws.Reset.{reset-sound, length-reset}
 use Rattle.pool.proofs.Laws.History.{run-sound, run-map, run-within, refill-says, refill-map}
-use Rattle.image.specs.History.{Call, poolCalls, runSays, mapRunSays}
+use Rattle.image.specs.History.{Call, poolCalls, historySays, mapHistorySays}
 use Rattle.image.specs.Build.{buildSays}
 use Rattle.image.proofs.Laws.History.{run-says}
 use Rattle.theorems.specs.Built.{builtImage}
@@ -31,14 +31,14 @@ module _ (p : Pool) (s : Sound p) (bounded : Bounded p) where
   held : Catalogue (poolMap p)
   held = map-catalogue p s bounded
 
-  answers : (cs : List Call) → AllLent (poolCalls cs) → runSays p cs ≡ runSays (refilled p) cs
+  answers : (cs : List Call) → AllLent (poolCalls cs) → historySays p cs ≡ historySays (refilled p) cs
   answers cs lent =
       let pushes = pushes-lent (poolMap p) (held .proper) in
       let start = reset-sound p (s .rooted) in
       let long : capacity (resetPool p) ≡ capacity p = rw (length-reset p) in
       let same : capacity (refilled p) ≡ capacity p = run-capacity (pushesOf (poolMap p)) (resetPool p) start pushes ∙ long in
       let holds = refill-map p s bounded in
-      let told : mapRunSays (capacity (refilled p)) (poolMap (refilled p)) cs ≡ mapRunSays (capacity p) (poolMap p) cs = λ i. mapRunSays (same i) (holds i) cs in
+      let told : mapHistorySays (capacity (refilled p)) (poolMap (refilled p)) cs ≡ mapHistorySays (capacity p) (poolMap p) cs = λ i. mapHistorySays (same i) (holds i) cs in
       run-says cs p s lent ∙ sym (run-says cs (refilled p) (run-sound (pushesOf (poolMap p)) (resetPool p) start pushes) lent ∙ told)
 
   searches : (cs : List Call) → AllLent (poolCalls cs) → (n : ℕ) (ls vs ws qs : List ℕ) → buildSays (runPool p (poolCalls cs)) ls vs ws qs ≡ 0 ∷ n ∷ []

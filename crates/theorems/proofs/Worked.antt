@@ -32,8 +32,8 @@ use Rattle.listings.specs.Cursors.{belongs, startSays, stepSays}
 use Rattle.places.specs.Incremental.{pathSays, querySays, queryMoves, walkable, followSays, followMoves, gotoSays, gotoMoves}
 use Rattle.listings.specs.GivenKey.{keySays, keyOut}
 use Rattle.theorems.specs.Built.{builtImage}
-use Rattle.theorems.specs.Worked.{builtSays, built, listed, says, lines, WorkedLines}
+use Rattle.theorems.specs.Worked.{builtSays, built, listedFrom, says, lines, WorkedLines}
 
 pub worked-lines : WorkedLines
-unfolding lines says builtSays built builtImage listed runSays runPool resetSays resetPool useCountSays insertedAt inserted hasRoom testedSays pushSays pushPool filled linked enteredAt entered enteredAll lastEntered marked reachFrom reachOf missingLabels slotFrom slotOf childAt siblingsFrom forestBelow poolForest poolMap both wordsFit recordFits isChild chainRest recordRest passRest rootFits soundTest word put lastRecord usedCount nextRecord taken listForest listTree over siblingRecords childRecords takenFrom levelRecords recordDegree poolLabels poolValues poolWords buffersFit fitSays buildSays buildLabels buildValues buildWords buildScratch sumBelow number table pack unary sequence compareKeys beginsWith extends commonPrefix lookup keep beginning longer isPrefixIn commonOfAll longestPrefixIn commonPrefixIn level deepest levels prefixes nodes isNode pathOf bit unpack degreesFrom width takeTrees dropTrees claim rebuild rowsFrom degreesIn rowsIn decode imageMap entryFits labelsRise oneFits childlessFits bitFits passesFrom lengthsFit endsFit imageTest exactSays isPrefixSays commonSays commonPart longestSays longestOut valueSays prefixLenSays prefixSays prefixOut indexOf nodeOf leastAbove belongs startSays stepSays pathSays querySays queryMoves walkable followSays followMoves gotoSays gotoMoves keySays keyOut
+unfolding lines says builtSays built builtImage listedFrom runSays runPool resetSays resetPool useCountSays insertedAt inserted hasRoom testedSays pushSays pushPool filled linked enteredAt entered enteredAll lastEntered marked reachFrom reachOf missingLabels slotFrom slotOf childAt siblingsFrom forestBelow poolForest poolMap both wordsFit recordFits isChild chainRest recordRest passRest rootFits soundTest word put lastRecord usedCount nextRecord taken listForest listTree over siblingRecords childRecords takenFrom levelRecords recordDegree poolLabels poolValues poolWords buffersFit fitSays buildSays buildLabels buildValues buildWords buildScratch sumBelow number table pack unary sequence compareKeys beginsWith extends commonPrefix lookup keep beginning longer isPrefixIn commonOfAll longestPrefixIn commonPrefixIn level deepest levels prefixes nodes isNode pathOf bit unpack degreesFrom width takeTrees dropTrees claim rebuild rowsFrom degreesIn rowsIn decode imageMap entryFits labelsRise oneFits childlessFits bitFits passesFrom lengthsFit endsFit imageTest exactSays isPrefixSays commonSays commonPart longestSays longestOut valueSays prefixLenSays prefixSays prefixOut indexOf nodeOf leastAbove belongs startSays stepSays pathSays querySays queryMoves walkable followSays followMoves gotoSays gotoMoves keySays keyOut
 worked-lines = refl

@@ -4,11 +4,11 @@ use mathlib.Core.Path.{_≡_}
 use mathlib.Core.Logic.{_↔_}
 use mathlib.Core.Bool.{true}
 use mathlib.Core.List.{[], _∷_}
-use Rattle.keymap.specs.Refusals.{Refusal, refusalNumber}
+use Rattle.keymap.specs.Refusals.{Refusal, refuses}
 use Rattle.keymap.specs.Map.{Map, Catalogue}
 use Rattle.keymap.specs.Image.{Image, image}
 use Rattle.keymap.specs.Decode.{imageMap}
-use Rattle.image.specs.Accept.{Accepted, OfMap, Lent}
+use Rattle.image.specs.Accept.{Accepted, OfMap, LentSlices}
 use Rattle.image.specs.AcceptTest.{imageTest}
 use Rattle.image.specs.AcceptAnswer.{acceptSays}
 
@@ -20,10 +20,10 @@ pub record Acceptance (i : Image) : Type 0 where
   pub list-map : Accepted i ↔ OfMap i
   -- "NotAnImage .. lent image is no map's image"
   pub accepts : (acceptSays i ≡ 0 ∷ []) ↔ OfMap i
-  pub refuses : (acceptSays i ≡ refusalNumber Refusal.NotAnImage ∷ []) ↔ (OfMap i → ⊥)
+  pub refuses : (acceptSays i ≡ refuses Refusal.NotAnImage) ↔ (OfMap i → ⊥)
   -- only one map has it, the one that the searches speak of
   pub only : (m : Map) → Catalogue m → image m ≡ i → imageMap i ≡ m
 
 -- of any three lent slices
 abbrev pub EveryImage : Type 0
-EveryImage = (i : Image) → Lent i → Acceptance i
+EveryImage = (i : Image) → LentSlices i → Acceptance i

@@ -16,7 +16,7 @@ use lib.ListN.{length}
 use lib.Dec.{leb}
 use Rattle.keymap.specs.Key.{Key}
 use Rattle.keymap.specs.Map.{Entry}
-use Rattle.keymap.specs.Refusals.{Refusal, refusalNumber}
+use Rattle.keymap.specs.Refusals.{Refusal, refuses}
 use Rattle.keymap.specs.Prefixes.{missing}
 use Rattle.keymap.specs.Image.{Image}
 use Rattle.records.specs.Words.{Pool, recordWords, usedCount, capacity}
@@ -26,7 +26,7 @@ use Rattle.pool.specs.Answers.{accepted}
 use Rattle.pool.specs.Reset.{resetSays, resetPool}
 use Rattle.pool.specs.UseCount.{useCountSays}
 use Rattle.pool.specs.Push.{pushSays, pushPool}
-use Rattle.image.specs.Accept.{OfMap, Lent}
+use Rattle.image.specs.Accept.{OfMap, LentSlices}
 use Rattle.image.specs.AcceptAnswer.{acceptSays}
 use Rattle.image.specs.Build.{buffersFit, buildSays, buildLabels, buildValues, buildWords, buildScratch}
 use Rattle.lines.specs.TabLine.{tabLineSays, tabLineKey}
@@ -40,10 +40,6 @@ use Rattle.listings.specs.Cursors.{startSays, stepSays}
 use Rattle.listings.specs.GivenKey.{keySays, keyOut}
 use Rattle.places.specs.Incremental.{querySays, queryMoves, followSays, followMoves, gotoSays, gotoMoves}
 use Rattle.places.specs.Places.{resumeSays, valueSays, prefixLenSays, prefixSays, prefixOut}
-
--- the answer that is a refusal's number alone
-abbrev pub refuses : Refusal → List ℕ
-refuses r = refusalNumber r ∷ []
 
 -- "NotAnImage: lent image is no map's image": on any place, cursor and buffer it comes first
 pub record Damaged (i : Image) : Type 0 where
@@ -109,7 +105,7 @@ pub record RefusalKeeps : Type 0 where
 
 -- any three lent slices that are no map's image
 abbrev pub EveryDamaged : Type 0
-EveryDamaged = (i : Image) → Lent i → (OfMap i → ⊥) → Damaged i
+EveryDamaged = (i : Image) → LentSlices i → (OfMap i → ⊥) → Damaged i
 
 -- a pool is one of three
 pub record PoolCases (p : Pool) : Type 0 where

@@ -17,7 +17,7 @@ use lib.ListN.{length, take, drop}
 use Rattle.keymap.specs.Limits.{valueLimit, mostRecords}
 use Rattle.keymap.specs.Members.{In}
 use Rattle.keymap.specs.Key.{Key, Below, PrefixOf}
-use Rattle.keymap.specs.Refusals.{Refusal, refusalNumber}
+use Rattle.keymap.specs.Refusals.{Refusal, refuses}
 use Rattle.keymap.specs.Map.{Entry, Map, Rising, Catalogue, insert, lookup}
 use Rattle.keymap.specs.Queries.{nonempty, SomeBegins, isPrefixIn, LongestCommon, longestPrefixIn, ShortestWithin, commonPrefixIn, NextAfter, leastAbove}
 use Rattle.keymap.specs.Prefixes.{prefixes}
@@ -67,13 +67,13 @@ pub record AtPath (m : Map) (i : Image) (p : Key) : Type 0 where
 
 -- a number that is no node's: every call answers BadPlace
 pub record NoPlace (i : Image) (k : ℕ) : Type 0 where
-  pub resume : resumeSays i k ≡ refusalNumber Refusal.BadPlace ∷ []
-  pub value : valueSays i k ≡ refusalNumber Refusal.BadPlace ∷ []
-  pub prefix-len : prefixLenSays i k ≡ refusalNumber Refusal.BadPlace ∷ []
-  pub prefix : (out : List ℕ) → prefixSays i k out ≡ refusalNumber Refusal.BadPlace ∷ []
-  pub query : (a : ℕ) → querySays i k a ≡ refusalNumber Refusal.BadPlace ∷ []
-  pub query-until : (q : Key) → followSays i k q ≡ refusalNumber Refusal.BadPlace ∷ []
-  pub goto : gotoSays i k ≡ refusalNumber Refusal.BadPlace ∷ []
+  pub resume : resumeSays i k ≡ refuses Refusal.BadPlace
+  pub value : valueSays i k ≡ refuses Refusal.BadPlace
+  pub prefix-len : prefixLenSays i k ≡ refuses Refusal.BadPlace
+  pub prefix : (out : List ℕ) → prefixSays i k out ≡ refuses Refusal.BadPlace
+  pub query : (a : ℕ) → querySays i k a ≡ refuses Refusal.BadPlace
+  pub query-until : (q : Key) → followSays i k q ≡ refuses Refusal.BadPlace
+  pub goto : gotoSays i k ≡ refuses Refusal.BadPlace
 
 -- ---- searches
 

@@ -14,7 +14,7 @@ use mathlib.Core.List.{List, [], _∷_, _++_, map}
 use mathlib.Core.Option.{some}
 use lib.ListN.{length, take, drop}
 use Rattle.keymap.specs.Limits.{valueLimit}
-use Rattle.keymap.specs.Refusals.{Refusal, refusalNumber}
+use Rattle.keymap.specs.Refusals.{Refusal, refuses}
 use Rattle.keymap.specs.Map.{Entry}
 use Rattle.lines.specs.Decimal.{decimal, valueAfter, isDecimal}
 use Rattle.lines.specs.TabLine.{tabLineSays, tabLineKey}
@@ -29,14 +29,14 @@ pub record LineCases (line : List ℕ) : Type 0 where
   -- "A line is key (no TAB or LF, maybe empty), one TAB, one decimal": such a line is read as its key and its number
   pub reads : (e : Entry) → ((tabLineSays line ≡ 0 ∷ length (e .0) ∷ e .1 ∷ []) × (tabLineKey line ≡ e .0)) ↔ (Plain e × (line ≡ tabLine e))
   -- "BadLine: catalogue line breaks the line rule"
-  pub refuses : (tabLineSays line ≡ refusalNumber Refusal.BadLine ∷ []) ↔ ((e : Entry) → Plain e → line ≡ tabLine e → ⊥)
+  pub refuses : (tabLineSays line ≡ refuses Refusal.BadLine) ↔ ((e : Entry) → Plain e → line ≡ tabLine e → ⊥)
 
 abbrev pub EveryLine : Type 0
 EveryLine = (line : List ℕ) → LineCases line
 
 -- "KeyRoom", of a line as of a key; else the entry's text, and what lies behind it stays
 pub record WrittenLine (e : Entry) (out : List ℕ) : Type 0 where
-  pub refuses : (writeLineSays e out ≡ refusalNumber Refusal.KeyRoom ∷ []) ↔ (length out < length (tabText e))
+  pub refuses : (writeLineSays e out ≡ refuses Refusal.KeyRoom) ↔ (length out < length (tabText e))
   pub writes : length (tabText e) ≤ length out → (writeLineSays e out ≡ 0 ∷ length (tabText e) ∷ []) × (writeLineOut e out ≡ tabText e ++ drop (length (tabText e)) out)
 
 abbrev pub EveryWrite : Type 0

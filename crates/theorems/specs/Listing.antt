@@ -1,7 +1,7 @@
 -- A listing as it is called (01, module 6): a start, then steps, each on the cursor that the answer before it handed back.
 --
 --     heardCursor      the cursor that numbers tell
---     nextCursor       the one to go on with; a refusal hands none back
+--     heardNext        the one to go on with; a refusal hands none back
 --     listingSays      what k steps behind a start answer
 --     listingIn        what the map says they answer: the entries of the listing in turn, then the end each time
 -- Assumes nothing.
@@ -35,16 +35,16 @@ firstCursor [] = Finished Predictive
 firstCursor (r ∷ ns) = heardCursor ns
 
 -- behind a step's answer, which tells a node, its value and the cursor, or node 0 and the cursor
-abbrev pub nextCursor : List ℕ → Cursor → Cursor
-nextCursor [] c = c
-nextCursor (r ∷ []) c = c
-nextCursor (r ∷ zero ∷ ns) c = heardCursor ns
-nextCursor (r ∷ suc k ∷ []) c = c
-nextCursor (r ∷ suc k ∷ v ∷ ns) c = heardCursor ns
+abbrev pub heardNext : List ℕ → Cursor → Cursor
+heardNext [] c = c
+heardNext (r ∷ []) c = c
+heardNext (r ∷ zero ∷ ns) c = heardCursor ns
+heardNext (r ∷ suc k ∷ []) c = c
+heardNext (r ∷ suc k ∷ v ∷ ns) c = heardCursor ns
 
 unfoldable pub stepsSay : ℕ → Image → Cursor → List (List ℕ)
 stepsSay zero i c = []
-stepsSay (suc k) i c = stepSays i c ∷ stepsSay k i (nextCursor (stepSays i c) c)
+stepsSay (suc k) i c = stepSays i c ∷ stepsSay k i (heardNext (stepSays i c) c)
 
 unfoldable pub listingSays : ℕ → Kind → Image → Key → List (List ℕ)
 listingSays k kind i q = stepsSay k i (firstCursor (startSays kind i q))

@@ -13,7 +13,7 @@ use Rattle.records.specs.Meaning.{poolMap, Holds}
 use Rattle.pool.specs.Reset.{resetPool}
 use Rattle.pool.specs.History.{AllLent, runPool, mapRun, pushesOf}
 use Rattle.pool.specs.History as pools
-use Rattle.image.specs.History.{Call, poolCalls, runSays}
+use Rattle.image.specs.History.{Call, poolCalls, historySays}
 use Rattle.image.specs.Build.{buildSays}
 use Rattle.theorems.specs.Built.{builtImage}
 use Rattle.theorems.specs.Demand2.{Demand2}
@@ -29,7 +29,7 @@ pub record NotReset (p : Pool) : Type 0 where
   pub accepts : pools.runSays (resetPool p) (pushesOf (poolMap p)) ≡ map (λ (e : Entry). 0 ∷ []) (poolMap p)
   pub holds : poolMap (refilled p) ≡ poolMap p
   -- any calls on the one answer what they answer on the other
-  pub answers : (cs : List Call) → AllLent (poolCalls cs) → runSays p cs ≡ runSays (refilled p) cs
+  pub answers : (cs : List Call) → AllLent (poolCalls cs) → historySays p cs ≡ historySays (refilled p) cs
   -- and what is built after them is searched by the map that the calls leave of it
   pub searches : (cs : List Call) → AllLent (poolCalls cs) → (n : ℕ) (ls vs ws qs : List ℕ) → buildSays (runPool p (poolCalls cs)) ls vs ws qs ≡ 0 ∷ n ∷ []
       → Demand2 (mapRun (capacity p) (poolMap p) (poolCalls cs)) (builtImage n (runPool p (poolCalls cs)) ls vs ws qs)

@@ -9,20 +9,20 @@ use mathlib.Core.List.{[], _∷_}
 use lib.ListN.{length}
 use Rattle.keymap.specs.Key.{Key}
 use Rattle.keymap.specs.Limits.{mostRecords}
-use Rattle.keymap.specs.Refusals.{refusalNumber, NotAnImage}
+use Rattle.keymap.specs.Refusals.{refuses, NotAnImage}
 use Rattle.keymap.specs.Bits.{wordsFor}
 use Rattle.keymap.specs.Image.{Image, bitsFor}
-use Rattle.image.specs.Accept.{entries, Accepted, Lent}
+use Rattle.image.specs.Accept.{entries, Accepted, LentSlices}
 use Rattle.searches.specs.Exact.{exactSays}
 use Rattle.searches.specs.Untested.{untestedSays}
 use Rattle.searches.specs.Met.{Alike}
 
 -- n is at most 4,096, and there are as many values and words as it asks for
-abbrev pub Fits : Image → Type 0
-Fits i = (entries i ≤ mostRecords) × (length (i .values) ≡ entries i) × (length (i .words) ≡ wordsFor (bitsFor (entries i)))
+abbrev pub LengthsFit : Image → Type 0
+LengthsFit i = (entries i ≤ mostRecords) × (length (i .values) ≡ entries i) × (length (i .words) ≡ wordsFor (bitsFor (entries i)))
 
 -- of any three slices and any query
 pub record Untested : Type 0 where
-  pub refuses : (i : Image) (q : Key) → (untestedSays i q ≡ refusalNumber NotAnImage ∷ []) ↔ (Fits i → ⊥)
-  pub accepted : (i : Image) → Lent i → Accepted i → (q : Key) → untestedSays i q ≡ exactSays i q
+  pub refuses : (i : Image) (q : Key) → (untestedSays i q ≡ refuses NotAnImage) ↔ (LengthsFit i → ⊥)
+  pub accepted : (i : Image) → LentSlices i → Accepted i → (q : Key) → untestedSays i q ≡ exactSays i q
   pub alike : (i j : Image) (q : Key) → Alike i j q → untestedSays i q ≡ untestedSays j q

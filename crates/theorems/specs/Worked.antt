@@ -13,7 +13,7 @@ use Rattle.keymap.specs.Key.{Key}
 use Rattle.keymap.specs.Map.{Entry}
 use Rattle.keymap.specs.Image.{Image}
 use Rattle.records.specs.Words.{Pool, recordWords, firstChild}
-use Rattle.pool.specs.History.{Call, pushesOf, runSays, runPool}
+use Rattle.pool.specs.History.{PoolCall, pushesOf, runSays, runPool}
 use Rattle.image.specs.Build.{buildSays}
 use Rattle.listings.specs.declared.answers.Kind.{Kind}
 use Rattle.listings.specs.declared.answers.Kind.the-variants.{Predictive, Postfix}
@@ -26,7 +26,7 @@ use Rattle.listings.specs.GivenKey.{keySays, keyOut}
 use Rattle.places.specs.Places.{prefixSays, prefixOut}
 use Rattle.places.specs.Incremental.{followSays, followMoves, gotoSays, gotoMoves}
 use Rattle.theorems.specs.Built.{builtImage}
-use Rattle.theorems.specs.Listing.{firstCursor, nextCursor}
+use Rattle.theorems.specs.Listing.{firstCursor, heardNext}
 
 pub data Asked : Type 0 where
   pushes : Asked  -- what a reset and the pushes answer
@@ -50,8 +50,8 @@ pub record Line : Type 0 where
 abbrev pub start : Pool
 start = replicate (recordWords * 4 + 3) 9
 
-abbrev pub history : List Entry → List Call
-history es = Call.reset ∷ pushesOf es
+abbrev pub history : List Entry → List PoolCall
+history es = PoolCall.reset ∷ pushesOf es
 
 -- what an answer tells behind its first number
 abbrev pub countIn : List ℕ → ℕ
@@ -70,8 +70,8 @@ abbrev pub buffer : List ℕ
 buffer = replicate 4 9
 
 -- the part of a buffer that an answer says was written
-abbrev pub written : List ℕ → List ℕ → List ℕ
-written said out = take (countIn said) out
+abbrev pub writtenPart : List ℕ → List ℕ → List ℕ
+writtenPart said out = take (countIn said) out
 
 -- what a step gave, by its answer and the cursor that it handed back
 abbrev pub givenAt : Image → List ℕ → Cursor → List ℕ
@@ -79,22 +79,22 @@ givenAt i [] c = []
 givenAt i (r ∷ []) c = r ∷ []
 givenAt i (r ∷ zero ∷ ns) c = []
 givenAt i (r ∷ suc k ∷ []) c = []
-givenAt i (r ∷ suc k ∷ v ∷ ns) c = v ∷ written (keySays i c buffer) (keyOut i c buffer)
+givenAt i (r ∷ suc k ∷ v ∷ ns) c = v ∷ writtenPart (keySays i c buffer) (keyOut i c buffer)
 
-unfoldable pub listed : ℕ → Image → Cursor → List (List ℕ)
-listed zero i c = []
-listed (suc k) i c = let said = stepSays i c in givenAt i said (nextCursor said c) ∷ listed k i (nextCursor said c)
+unfoldable pub listedFrom : ℕ → Image → Cursor → List (List ℕ)
+listedFrom zero i c = []
+listedFrom (suc k) i c = let said = stepSays i c in givenAt i said (heardNext said c) ∷ listedFrom k i (heardNext said c)
 
 -- the place at a path, come to from the root, which is node 1
 abbrev pub placeOf : Image → Key → ℕ
 placeOf i p = followMoves i 1 p
 
 abbrev pub pathAt : Image → ℕ → List ℕ
-pathAt i k = written (prefixSays i k buffer) (prefixOut i k buffer)
+pathAt i k = writtenPart (prefixSays i k buffer) (prefixOut i k buffer)
 
 -- what a call writes, behind its answer
 abbrev pub longestAt : Image → Key → List (List ℕ)
-longestAt i q = longestSays i q buffer ∷ written (longestSays i q buffer) (longestOut i q buffer) ∷ []
+longestAt i q = longestSays i q buffer ∷ writtenPart (longestSays i q buffer) (longestOut i q buffer) ∷ []
 
 -- where a call leaves the place, behind its answer
 abbrev pub gotoAt : Image → ℕ → List (List ℕ)
@@ -115,7 +115,7 @@ says es rootChild = (firstChild (poolOf es) 0 ∷ []) ∷ []
 says es build = builtSays (poolOf es) ∷ imageOf es .labels ∷ imageOf es .values ∷ imageOf es .words ∷ []
 says es (isPrefix q) = isPrefixSays (imageOf es) q ∷ []
 says es (longest q) = longestAt (imageOf es) q
-says es (listing kind q k) = listed k (imageOf es) (firstCursor (startSays kind (imageOf es) q))
+says es (listing kind q k) = listedFrom k (imageOf es) (firstCursor (startSays kind (imageOf es) q))
 says es (common q seen) = commonSays (imageOf es) q seen ∷ commonPart (imageOf es) q seen ∷ []
 says es (goto p) = gotoAt (imageOf es) (placeOf (imageOf es) p)
 says es (until p q) = untilAt (imageOf es) (placeOf (imageOf es) p) q

@@ -18,7 +18,7 @@ use Rattle.keymap.specs.Map.{Map, Catalogue}
 use Rattle.keymap.specs.Prefixes.{prefixes}
 use Rattle.keymap.specs.Image.{bitsFor, imageLabels, imageValues, imageBits, image}
 use Rattle.keymap.specs.Decode.{imageMap}
-use Rattle.keymap.specs.Refusals.{Refusal, refusalNumber}
+use Rattle.keymap.specs.Refusals.{Refusal, refuses}
 use Rattle.keymap.proofs.Laws.Bits.{length-pack}
 use Rattle.keymap.proofs.Laws.Image.{imageMap-image, length-imageBits, length-imageLabels, length-imageValues}
 use Rattle.records.specs.Words.{Pool, recordWords, word, usedCount, Bounded}
@@ -31,7 +31,7 @@ use Rattle.records.proofs.Laws.Meaning.{count-prefixes}
 use Rattle.pool.specs.Answers.{accepted}
 use Rattle.keymap.specs.Buffers.{over}
 use Rattle.image.specs.Build.{buffersFit, fitSays, buildSays, buildLabels, buildValues, buildWords}
-use Rattle.image.specs.Meaning.{lent, MapImage}
+use Rattle.image.specs.Meaning.{asImage, MapImage}
 use Rattle.keymap.proofs.Laws.Buffers.{length-over, take-over}
 use Rattle.image.proofs.Laws.Build.{fit-all, says-sound}
 use Rattle.image.proofs.Laws.PoolImage.{build-means-image}
@@ -58,7 +58,7 @@ unfolding buildSays fitSays
 build-fitting p ls vs ws qs n h = go (ltb (length p) recordWords) (soundTest p) (buffersFit (usedCount p) (length ls) (length vs) (length ws) (length qs)) refl refl h
   where
     go : (t u w : Bool) → soundTest p ≡ u → buffersFit (usedCount p) (length ls) (length vs) (length ws) (length qs) ≡ w
-        → 0 ∷ n ∷ [] ≡ cond t (refusalNumber Refusal.PoolTooSmall ∷ []) (cond u (cond w (0 ∷ usedCount p ∷ []) (refusalNumber Refusal.OutTooSmall ∷ [])) (refusalNumber Refusal.NotAPool ∷ []))
+        → 0 ∷ n ∷ [] ≡ cond t (refuses Refusal.PoolTooSmall) (cond u (cond w (0 ∷ usedCount p ∷ []) (refuses Refusal.OutTooSmall)) (refuses Refusal.NotAPool))
         → Fitting p ls vs ws qs n
     go true u w a b q = let z : _≡_ {A = ℕ} 0 1 = cc in absurd (omega arith)
     go false false w a b q = let z : _≡_ {A = ℕ} 0 2 = cc in absurd (omega arith)
@@ -77,7 +77,7 @@ record BuiltImage (p : Pool) (ls vs ws qs : List ℕ) (n : ℕ) : Type 0 where
   labels-in : n ≤ length (buildLabels p ls vs ws qs)
   values-in : n ≤ length (buildValues p ls vs ws qs)
   words-in : (2 * n + 66) / 64 ≤ length (buildWords p ls vs ws qs)
-  shows : lent (take n (buildLabels p ls vs ws qs)) (take n (buildValues p ls vs ws qs)) (take ((2 * n + 66) / 64) (buildWords p ls vs ws qs)) ≡ image (poolMap p)
+  shows : asImage (take n (buildLabels p ls vs ws qs)) (take n (buildValues p ls vs ws qs)) (take ((2 * n + 66) / 64) (buildWords p ls vs ws qs)) ≡ image (poolMap p)
   is-map : MapImage (image (poolMap p))
   map-back : imageMap (image (poolMap p)) ≡ poolMap p
 
@@ -113,15 +113,15 @@ pub record LentImage (p : Pool) (labels values words : List ℕ) (n : ℕ) : Typ
   pub labels-in : n ≤ length labels
   pub values-in : n ≤ length values
   pub words-in : (2 * n + 66) / 64 ≤ length words
-  pub is-map : MapImage (lent (take n labels) (take n values) (take ((2 * n + 66) / 64) words))
-  pub map-is : imageMap (lent (take n labels) (take n values) (take ((2 * n + 66) / 64) words)) ≡ poolMap p
+  pub is-map : MapImage (asImage (take n labels) (take n values) (take ((2 * n + 66) / 64) words))
+  pub map-is : imageMap (asImage (take n labels) (take n values) (take ((2 * n + 66) / 64) words)) ≡ poolMap p
 
 pub lent-image : (p : Pool) (ls vs ws qs : List ℕ) (n : ℕ) (labels values words : List ℕ) → (Sound p → Catalogue (poolMap p)) → 0 ∷ n ∷ [] ≡ buildSays p ls vs ws qs
     → labels ≡ buildLabels p ls vs ws qs → values ≡ buildValues p ls vs ws qs → words ≡ buildWords p ls vs ws qs → LentImage p labels values words n
 lent-image p ls vs ws qs n labels values words held h l v w =
     let b = built-image p ls vs ws qs n held h in
-    let shows : lent (take n labels) (take n values) (take ((2 * n + 66) / 64) words) ≡ image (poolMap p) =
-    (λ i. lent (take n (l i)) (take n (v i)) (take ((2 * n + 66) / 64) (w i))) ∙ b .shows in
+    let shows : asImage (take n labels) (take n values) (take ((2 * n + 66) / 64) words) ≡ image (poolMap p) =
+    (λ i. asImage (take n (l i)) (take n (v i)) (take ((2 * n + 66) / 64) (w i))) ∙ b .shows in
     record {
       labels-in = subst (λ (xs : List ℕ). n ≤ length xs) (sym l) (b .labels-in);
       values-in = subst (λ (xs : List ℕ). n ≤ length xs) (sym v) (b .values-in);
@@ -139,4 +139,4 @@ build-accepts p s size ls vs ws qs l v w q =
     let few : n ≤ programCapacity = omega (arith, used-within p s, size) in
     let fit : buffersFit n (length ls) (length vs) (length ws) (length qs) ≡ true =
     rw (le-leb n (length ls) (omega (arith, few, l)), le-leb n (length vs) (omega (arith, few, v)), le-leb ((2 * n + 3 + 63) / 64) (length ws) (omega (arith, few, w)), le-leb n (length qs) (omega (arith, few, q))) in
-    ap accepted (says-sound p ls vs ws qs s ∙ ap (λ (t : Bool). cond t (0 ∷ n ∷ []) (refusalNumber Refusal.OutTooSmall ∷ [])) fit)
+    ap accepted (says-sound p ls vs ws qs s ∙ ap (λ (t : Bool). cond t (0 ∷ n ∷ []) (refuses Refusal.OutTooSmall)) fit)

@@ -19,7 +19,7 @@ use borrow.Author.Tests.{eq-eqb, ne-eqb, eqb-false}
 use Rattle.keymap.specs.Limits.{byteLimit}
 use Rattle.keymap.specs.Key.{Bytes}
 use Rattle.keymap.specs.Map.{Entry, insertAll}
-use Rattle.keymap.specs.Refusals.{Refusal, refusalNumber}
+use Rattle.keymap.specs.Refusals.{Refusal, refuses}
 use Rattle.keymap.proofs.Laws.Begins.{bytes-prefix, prefix-leading}
 use Rattle.records.specs.Words.{Pool, recordWords}
 use Rattle.records.specs.Sound.{Sound}
@@ -48,11 +48,11 @@ entry-said line n v = go (tabEntry line)
     go none h = absurd (let z : _≡_ {A = ℕ} 0 1 = cc in omega arith)
     go (some e) h = let same : e .1 ≡ v = cc in λ i. some (e .0, same i)
 
-pub entry-none : (line : List ℕ) → tabLineSays line ≡ refusalNumber Refusal.BadLine ∷ [] → tabEntry line ≡ none
+pub entry-none : (line : List ℕ) → tabLineSays line ≡ refuses Refusal.BadLine → tabEntry line ≡ none
 unfolding tabLineSays
 entry-none line = go (tabEntry line)
   where
-    go : (o : Option Entry) → entrySays o ≡ refusalNumber Refusal.BadLine ∷ [] → o ≡ none
+    go : (o : Option Entry) → entrySays o ≡ refuses Refusal.BadLine → o ≡ none
     go none h = refl
     go (some e) h = absurd (let z : _≡_ {A = ℕ} 0 1 = cc in omega arith)
 

@@ -1,7 +1,7 @@
 -- A listing put into a buffer, entry by entry: what stands before the place to go on from, and the text of the rest, are together the text of the map.
 --
 --     start-told                  no start on a map's image is refused
---     Listing, listing-starts     before the first step; `listing-within`: the place is inside the buffer
+--     Listed, listing-starts      before the first step; `listing-within`: the place is inside the buffer
 --     Turn, listing-turn          a step that gave an entry: its key and what stands behind the key have room, and with them put the listing stands behind it
 --     listing-ends                a step that gave none: the text of the map is put
 -- Assumes nothing.
@@ -46,7 +46,7 @@ use Rattle.listings.specs.GivenKey.{keyOf, keySays, keyOut}
 use Rattle.listings.proofs.Laws.Answers.{saidCursor-one, saidStepped-one}
 use Rattle.listings.proofs.Laws.Cursors.{belongs-fresh, startSays-accepted}
 use Rattle.catalogue.proofs.Laws.Putting.{Put, put-start, put-behind}
-use Rattle.catalogue.proofs.Laws.Next.{nextEntry, nextCursor, kindOf, restOf, next-head, next-belongs, next-key, rest-step}
+use Rattle.catalogue.proofs.Laws.Next.{nextEntry, cursorAfter, kindOf, restOf, next-head, next-belongs, next-key, rest-step}
 
 -- ---- where a cursor stands
 
@@ -56,7 +56,7 @@ record Stands (i : Image) (c : Cursor) (rest : Map) : Type 0 where
   predictive : kindOf c ≡ kinds.Predictive
   rest-is : restOf (imageMap i) c ≡ rest
 
-next-kind : (m : Map) (c : Cursor) (e : Entry) → kindOf (nextCursor m c e) ≡ kindOf c
+next-kind : (m : Map) (c : Cursor) (e : Entry) → kindOf (cursorAfter m c e) ≡ kindOf c
 next-kind m (Open kind top last) e = refl
 next-kind m (Finished kind) e = refl
 
@@ -114,7 +114,7 @@ endOf (Finished kind) = Finished kind
 
 abbrev steppedTo : Map → Cursor → Option Entry → Stepped
 steppedTo m c none = stepped.End (endOf c)
-steppedTo m c (some e) = stepped.Gave (nodeOf m (e .0)) (e .1) (nextCursor m c e)
+steppedTo m c (some e) = stepped.Gave (nodeOf m (e .0)) (e .1) (cursorAfter m c e)
 
 step-in : (m : Map) (c : Cursor) → stepIn m c ≡ saidStepped (steppedTo m c (nextEntry m c))
 step-in m (Open kind top last) = go (nextIn m (setOf m kind (pathOf m top)) last)
@@ -148,7 +148,7 @@ unfolding tabText tabLine
 text-parts e = append-assoc (e .0) (tab ∷ decimal (e .1)) (lineFeed ∷ [])
 
 -- so far s is put, and the text of the rest makes it the text of the map
-pub record Listing (i : Image) (out₀ : List ℕ) (c : Cursor) (at : ℕ) (out : List ℕ) : Type 0 where
+pub record Listed (i : Image) (out₀ : List ℕ) (c : Cursor) (at : ℕ) (out : List ℕ) : Type 0 where
   s : List ℕ
   rest : Map
   stands : Stands i c rest
@@ -164,16 +164,16 @@ pub record Turn (i : Image) (out₀ : List ℕ) (c : Cursor) (at : ℕ) (out : L
   pub less : length (restOf (imageMap i) next) < length (restOf (imageMap i) c)
   pub then : (to : ℕ) (more : List ℕ) → to ≡ at + length key + length (tabText ([], v))
       → more ≡ take (at + length key) (take at out ++ over key (drop at out)) ++ over (tabText ([], v)) (drop (at + length key) (take at out ++ over key (drop at out)))
-      → Listing i out₀ next to more
+      → Listed i out₀ next to more
 
 module _ (i : Image) (image : MapImage i) (out₀ : List ℕ) where
   abbrev m : Map
   m = imageMap i
 
-  pub listing-starts : (c : Cursor) → saidStarted (At c) ≡ startSays kinds.Predictive i [] → Listing i out₀ c 0 out₀
+  pub listing-starts : (c : Cursor) → saidStarted (At c) ≡ startSays kinds.Predictive i [] → Listed i out₀ c 0 out₀
   listing-starts c h = record { s = []; rest = m; stands = start-rest i image c h; put = put-start out₀; whole = refl }
 
-  module _ (c : Cursor) (at : ℕ) (out : List ℕ) (l : Listing i out₀ c at out) where
+  module _ (c : Cursor) (at : ℕ) (out : List ℕ) (l : Listed i out₀ c at out) where
     -- the place is inside the buffer
     pub listing-within : length (mapText m) ≤ length out₀ → at ≤ length out
     listing-within fits =
@@ -201,7 +201,7 @@ module _ (i : Image) (image : MapImage i) (out₀ : List ℕ) where
         is : stepped.Gave n v next ≡ steppedTo m c (head? (l .rest))
         is = stands-step i image c (l .rest) (l .stands) (stepped.Gave n v next) h
 
-        turn : (e : Entry) (rest : Map) → l .rest ≡ e ∷ rest → v ≡ e .1 → (d : Cursor) → nextCursor m c e ≡ d → Turn i out₀ c at out v d
+        turn : (e : Entry) (rest : Map) → l .rest ≡ e ∷ rest → v ≡ e .1 → (d : Cursor) → cursorAfter m c e ≡ d → Turn i out₀ c at out v d
         turn e rest q value d to =
             let tail : List ℕ = tabText ([], v) in
             let r : Rising m = image .catalogue .rising in
@@ -210,8 +210,8 @@ module _ (i : Image) (image : MapImage i) (out₀ : List ℕ) where
             let given : nextEntry m c ≡ some e = next-head m c ∙ ap head? (st .rest-is ∙ q) in
             let belonging : belongs m d ≡ true = ap (belongs m) (sym to) ∙ next-belongs m r c e (st .belonging) given in
             let key-of : keyOf m d ≡ some (e .0) = ap (keyOf m) (sym to) ∙ next-key m r c e (st .predictive) given in
-            let rests : e ∷ restOf m (nextCursor m c e) ≡ e ∷ rest = sym (rest-step m r c e given) ∙ st .rest-is ∙ q in
-            let behind : restOf m (nextCursor m c e) ≡ rest = cc in
+            let rests : e ∷ restOf m (cursorAfter m c e) ≡ e ∷ rest = sym (rest-step m r c e given) ∙ st .rest-is ∙ q in
+            let behind : restOf m (cursorAfter m c e) ≡ rest = cc in
             let at-rest : restOf m d ≡ rest = ap (restOf m) (sym to) ∙ behind in
             let text : mapText (l .rest) ≡ tabText e ++ mapText rest = ap mapText q in
             let long : length (l .s) + length (mapText (l .rest)) ≡ length (mapText m) = sym (length-append (l .s) (mapText (l .rest))) ∙ ap length (l .whole) in
@@ -254,7 +254,7 @@ module _ (i : Image) (image : MapImage i) (out₀ : List ℕ) where
             let none-given : stepped.Gave n v next ≡ stepped.End (endOf c) = is ∙ ap (λ (x : Map). steppedTo m c (head? x)) q in
             let z : _≡_ {A = ℕ} 0 1 = cc in absurd (omega arith)
         go (e ∷ rest) q =
-            let gave : stepped.Gave n v next ≡ stepped.Gave (nodeOf m (e .0)) (e .1) (nextCursor m c e) = is ∙ ap (λ (x : Map). steppedTo m c (head? x)) q in
+            let gave : stepped.Gave n v next ≡ stepped.Gave (nodeOf m (e .0)) (e .1) (cursorAfter m c e) = is ∙ ap (λ (x : Map). steppedTo m c (head? x)) q in
             let value : v ≡ e .1 = cc in
-            let to-next : nextCursor m c e ≡ next = cc in
+            let to-next : cursorAfter m c e ≡ next = cc in
             turn e rest q value next to-next

@@ -1,6 +1,6 @@
 -- Laws of what a listing gives next, and of the rest. The next entry is the first of the rest, and behind it stand the others.
 --
---     nextEntry, nextCursor      the entry that a cursor gives next, and the cursor behind it; `restOf`: the entries still to be given
+--     nextEntry, cursorAfter     the entry that a cursor gives next, and the cursor behind it; `restOf`: the entries still to be given
 --     next-head                  the next entry is the first of the rest
 --     next-member                it is one of the map
 --     next-belongs, next-key     the cursor behind it belongs, and in a predictive listing its key is the entry's
@@ -37,9 +37,9 @@ nextEntry m (Open kind top last) = nextIn m (setOf m kind (pathOf m top)) last
 nextEntry m (Finished kind) = none
 
 -- and the cursor behind it
-abbrev pub nextCursor : Map → Cursor → Entry → Cursor
-nextCursor m (Open kind top last) e = Open kind top (nodeOf m (e .0))
-nextCursor m (Finished kind) e = Finished kind
+abbrev pub cursorAfter : Map → Cursor → Entry → Cursor
+cursorAfter m (Open kind top last) e = Open kind top (nodeOf m (e .0))
+cursorAfter m (Finished kind) e = Finished kind
 
 abbrev pub kindOf : Cursor → Kind
 kindOf (Open kind top last) = kind
@@ -69,14 +69,14 @@ module _ (m : Map) (r : Rising m) where
   next-member (Finished kind) e h = let z : _≡_ {A = ℕ} 0 1 = cc in absurd (omega arith)
 
   -- the cursor behind it belongs, and the key that it gives is the entry's
-  pub next-belongs : (c : Cursor) (e : Entry) → belongs m c ≡ true → nextEntry m c ≡ some e → belongs m (nextCursor m c e) ≡ true
+  pub next-belongs : (c : Cursor) (e : Entry) → belongs m c ≡ true → nextEntry m c ≡ some e → belongs m (cursorAfter m c e) ≡ true
   next-belongs (Open kind top last) e b h =
       let back : nodeOf m (pathOf m top) ≡ top = nodeOf-pathOf m r top (belongs-top m kind top last b) in
       ap (λ (n : ℕ). belongs m (Open kind n (nodeOf m (e .0)))) (sym back)
       ∙ belongs-at m r kind (pathOf m top) e (next-in m (setOf m kind (pathOf m top)) last e h)
   next-belongs (Finished kind) e b h = let z : _≡_ {A = ℕ} 0 1 = cc in absurd (omega arith)
 
-  pub next-key : (c : Cursor) (e : Entry) → kindOf c ≡ kinds.Predictive → nextEntry m c ≡ some e → keyOf m (nextCursor m c e) ≡ some (e .0)
+  pub next-key : (c : Cursor) (e : Entry) → kindOf c ≡ kinds.Predictive → nextEntry m c ≡ some e → keyOf m (cursorAfter m c e) ≡ some (e .0)
   unfolding nodeOf
   next-key (Open kind top last) e k h =
       let i : In e m = next-member (Open kind top last) e h in
@@ -144,7 +144,7 @@ module _ (m : Map) (r : Rising m) where
       go zero g = ap (above (e .0)) g ∙ above-first e rest (subst Rising g (setOf-rising m r kind (pathOf m top)))
       go (suc k) g = above-next (setOf m kind (pathOf m top)) (setOf-rising m r kind (pathOf m top)) (pathOf m (suc k)) e rest g
 
-  pub rest-step : (c : Cursor) (e : Entry) → nextEntry m c ≡ some e → restOf m c ≡ e ∷ restOf m (nextCursor m c e)
+  pub rest-step : (c : Cursor) (e : Entry) → nextEntry m c ≡ some e → restOf m c ≡ e ∷ restOf m (cursorAfter m c e)
   rest-step (Open kind top last) e h =
       let (rest, f) = head-tail (restOf m (Open kind top last)) e (sym (next-head m (Open kind top last)) ∙ h) in
       f ∙ ap (λ (n : Map). e ∷ n) (sym (rest-next kind top last e rest f (next-member m r (Open kind top last) e h)))

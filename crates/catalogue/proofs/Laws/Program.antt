@@ -33,7 +33,7 @@ use Rattle.catalogue.specs.TextAnswers.{textFrom, textSays, entriesIn, t
 use Rattle.catalogue.specs.Filling.{saidFilled, fillFrom, leftFrom, fillPool, HeldIf}
 use Rattle.catalogue.specs.Program.{noFileText, tooLongText, refusedText, programText}
 use Rattle.catalogue.specs.Reading.{whatRead}
-use Rattle.catalogue.specs.Rooms.{programPool, builtPool, Written}
+use Rattle.catalogue.specs.Rooms.{programPool, builtPool, RoomsLeft}
 use Rattle.catalogue.proofs.Laws.Filling.{filled-holds}
 use Rattle.catalogue.proofs.Laws.TextAnswers.{Told, cause-number, text-told, text-long, text-short, reset-text}
 
@@ -116,26 +116,26 @@ refused-number text number line h z = go (text-told programCapacity text)
 module _ (w : Option (List ℕ)) (p ls vs ws qs out₀ : List ℕ) where
   -- what is put at the start is t, and nothing is built
   unbuilt : (t q : List ℕ) → programText w ≡ t → programPool w p ≡ q → builtPool w p ≡ [] → (r : ℕ) (out : List ℕ) → r ≡ length t → out ≡ over t out₀
-      → Written w p ls vs ws qs out₀ r out q ls vs ws qs
+      → RoomsLeft w p ls vs ws qs out₀ r out q ls vs ws qs
   unfolding buildLabels buildValues buildWords buildScratch buildSays
   unbuilt t q text pool none-built r out e o = rw (text, pool, none-built) (e, (o, (refl, (refl, (refl, (refl, refl))))))
 
   -- t is put, and the pool is built
   built : (t q : List ℕ) → programText w ≡ t → programPool w p ≡ q → builtPool w p ≡ q → (r : ℕ) (out ls₁ vs₁ ws₁ qs₁ : List ℕ) → r ≡ length t → out ≡ over t out₀
       → (ls₁ ≡ buildLabels q ls vs ws qs) × ((vs₁ ≡ buildValues q ls vs ws qs) × ((ws₁ ≡ buildWords q ls vs ws qs) × (qs₁ ≡ buildScratch q ls vs ws qs)))
-      → Written w p ls vs ws qs out₀ r out q ls₁ vs₁ ws₁ qs₁
+      → RoomsLeft w p ls vs ws qs out₀ r out q ls₁ vs₁ ws₁ qs₁
   built t q text pool same r out ls₁ vs₁ ws₁ qs₁ e o left = rw (text, pool, same) (e, (o, (refl, left)))
 
 module _ (rd : Reading) (room p ls vs ws qs out₀ : List ℕ) where
   abbrev what : Option (List ℕ)
   what = whatRead rd room
 
-  pub unread-written : rd .whole ≡ false → (r : ℕ) (out : List ℕ) → r ≡ length noFileText → out ≡ over noFileText out₀ → Written what p ls vs ws qs out₀ r out p ls vs ws qs
+  pub unread-written : rd .whole ≡ false → (r : ℕ) (out : List ℕ) → r ≡ length noFileText → out ≡ over noFileText out₀ → RoomsLeft what p ls vs ws qs out₀ r out p ls vs ws qs
   unfolding programText programPool builtPool
   unread-written f r out e o = unbuilt what p ls vs ws qs out₀ noFileText p (rw f) (rw f) (rw f) r out e o
 
   pub long-written : rd .whole ≡ true → fileLimit < rd .done → fileLimit < length room → (r : ℕ) (out : List ℕ) → r ≡ length tooLongText → out ≡ over tooLongText out₀
-      → Written what p ls vs ws qs out₀ r out p ls vs ws qs
+      → RoomsLeft what p ls vs ws qs out₀ r out p ls vs ws qs
   unfolding programText programPool builtPool
   long-written f h l r out e o =
       let text : List ℕ = take (rd .done) room in
@@ -151,7 +151,7 @@ module _ (rd : Reading) (room p ls vs ws qs out₀ : List ℕ) where
     short = omega (arith, h, length-take (rd .done) room)
 
     pub refused-written : (number line : ℕ) → number ∷ line ∷ [] ≡ textFrom programCapacity 1 [] (entryLines text) → (q : Pool) → q ≡ fillPool p text → (r : ℕ) (out : List ℕ)
-        → r ≡ length (refusedText number line) → out ≡ over (refusedText number line) out₀ → Written what p ls vs ws qs out₀ r out q ls vs ws qs
+        → r ≡ length (refusedText number line) → out ≡ over (refusedText number line) out₀ → RoomsLeft what p ls vs ws qs out₀ r out q ls vs ws qs
     unfolding programText programPool builtPool
     refused-written number line said q left r out e o =
         let says : textSays programCapacity text ≡ number ∷ line ∷ [] = text-short programCapacity text short ∙ sym said in
@@ -161,7 +161,7 @@ module _ (rd : Reading) (room p ls vs ws qs out₀ : List ℕ) where
     pub listed-written : (q : Pool) → 0 ∷ [] ≡ textFrom programCapacity 1 [] (entryLines text) → q ≡ fillPool p text → poolMap q ≡ textMap text → (r : ℕ) (out ls₁ vs₁ ws₁ qs₁ : List ℕ)
         → r ≡ length (mapText (poolMap q)) → out ≡ over (mapText (poolMap q)) out₀
         → (ls₁ ≡ buildLabels q ls vs ws qs) × ((vs₁ ≡ buildValues q ls vs ws qs) × ((ws₁ ≡ buildWords q ls vs ws qs) × (qs₁ ≡ buildScratch q ls vs ws qs)))
-        → Written what p ls vs ws qs out₀ r out q ls₁ vs₁ ws₁ qs₁
+        → RoomsLeft what p ls vs ws qs out₀ r out q ls₁ vs₁ ws₁ qs₁
     unfolding programText programPool builtPool
     listed-written q said left holds r out ls₁ vs₁ ws₁ qs₁ e o buffers =
         let says : textSays programCapacity text ≡ 0 ∷ [] = text-short programCapacity text short ∙ sym said in

@@ -20,7 +20,7 @@ use borrow.Author.Tests.{ne-eqb, leb-true, leb-false, lt-leb, ltb-true, ltb-fals
 use Rattle.keymap.specs.Key.{Key, Bytes}
 use Rattle.keymap.specs.Map.{Entry, Map, Rising, insert, insertAll}
 use Rattle.keymap.specs.Prefixes.{deepest, levels, prefixes}
-use Rattle.keymap.specs.Refusals.{Refusal, refusalNumber}
+use Rattle.keymap.specs.Refusals.{Refusal, refusalNumber, refuses}
 use Rattle.keymap.proofs.Laws.Map.{insert-rising}
 use Rattle.records.specs.Words.{Pool, recordWords, capacity}
 use Rattle.records.specs.Sound.{Sound}
@@ -28,7 +28,7 @@ use Rattle.records.specs.Meaning.{poolMap}
 use Rattle.pool.specs.Answers.{accepted}
 use Rattle.pool.specs.Reset.{resetPool}
 use Rattle.pool.specs.Push.{pushSays, pushPool}
-use Rattle.pool.specs.History.{Call, mapSays}
+use Rattle.pool.specs.History.{PoolCall, mapSays}
 use Rattle.pool.proofs.Laws.Reset.{reset-sound, length-reset}
 use Rattle.pool.proofs.Laws.Push.{push-keeps, length-push}
 use Rattle.pool.proofs.Laws.Meaning.{reset-means-empty, push-means-insert}
@@ -37,7 +37,7 @@ use Rattle.lines.specs.TabLine.{tabEntry}
 use Rattle.lines.specs.Text.{entryLines}
 use Rattle.catalogue.specs.Limits.{fileLimit}
 use Rattle.catalogue.specs.Filling.{fillFrom}
-use Rattle.catalogue.specs.TextCases.{Cause, bad, empty, full, Whole}
+use Rattle.catalogue.specs.TextCases.{Cause, bad, emptyKey, noRoom, Whole}
 use Rattle.catalogue.specs.TextAnswers.{textFrom, textSays, entriesIn, AllEntries}
 use Rattle.catalogue.proofs.Laws.Filling.{AllBytes, key-bytes, lines-bytes}
 
@@ -53,26 +53,26 @@ line-view most m l = go (tabEntry l) refl
   where
     room : (e : Entry) → tabEntry l ≡ some e → ¬ (e .0 ≡ []) → (t : Bool) → leb (length (prefixes (insert (e .0) (e .1) m))) most ≡ t → Line most m l
     room e f d true h = goes e f d (leb-true _ _ h)
-    room e f d false h = stops (refusalNumber Refusal.NoRoom) (full e f d (leb-false _ _ h) refl)
+    room e f d false h = stops (refusalNumber Refusal.NoRoom) (noRoom e f d (leb-false _ _ h) refl)
 
     keyed : (e : Entry) → tabEntry l ≡ some e → (k : Key) → e .0 ≡ k → Line most m l
-    keyed e f [] z = stops (refusalNumber Refusal.EmptyKey) (empty e f z refl)
+    keyed e f [] z = stops (refusalNumber Refusal.EmptyKey) (emptyKey e f z refl)
     keyed e f (b ∷ k) z = room e f (λ n. let o : b ∷ k ≡ [] = sym z ∙ n in absurd (let q : _≡_ {A = ℕ} 0 1 = cc in omega arith)) (leb (length (prefixes (insert (e .0) (e .1) m))) most) refl
 
     go : (o : Option Entry) → tabEntry l ≡ o → Line most m l
     go none f = stops (refusalNumber Refusal.BadLine) (bad f refl)
     go (some e) f = keyed e f (e .0) refl
 
-empty-says : (most : ℕ) (m : Map) (v : ℕ) (k : Key) → k ≡ [] → mapSays most m (Call.push k v) ≡ refusalNumber Refusal.EmptyKey ∷ []
+empty-says : (most : ℕ) (m : Map) (v : ℕ) (k : Key) → k ≡ [] → mapSays most m (PoolCall.push k v) ≡ refuses Refusal.EmptyKey
 empty-says most m v k z = rw z refl
 
 full-says : (most : ℕ) (m : Map) (v : ℕ) (k : Key) → ¬ (k ≡ []) → most < length (prefixes (insert k v m))
-    → mapSays most m (Call.push k v) ≡ refusalNumber Refusal.NoRoom ∷ []
+    → mapSays most m (PoolCall.push k v) ≡ refuses Refusal.NoRoom
 full-says most m v [] d many = absurd (d refl)
 full-says most m v (b ∷ k) d many = rw (ne-eqb (length (b ∷ k)) 0 (λ e. omega arith), lt-leb _ _ many)
 
 module _ (most n : ℕ) (m : Map) (l : List ℕ) (ls : List (List ℕ)) where
-  entry-told : (e : Entry) → tabEntry l ≡ some e → (a : List ℕ) → mapSays most m (Call.push (e .0) (e .1)) ≡ a
+  entry-told : (e : Entry) → tabEntry l ≡ some e → (a : List ℕ) → mapSays most m (PoolCall.push (e .0) (e .1)) ≡ a
       → textFrom most n m (l ∷ ls) ≡ cond (accepted a) (textFrom most (suc n) (insert (e .0) (e .1) m) ls) (a ++ (n ∷ []))
   unfolding textFrom
   entry-told e f a says = rw f (ap (λ (s : List ℕ). cond (accepted s) (textFrom most (suc n) (insert (e .0) (e .1) m) ls) (s ++ (n ∷ []))) says)
@@ -84,13 +84,13 @@ module _ (most n : ℕ) (m : Map) (l : List ℕ) (ls : List (List ℕ)) where
   pub text-stops : (number : ℕ) → Cause most m l number → textFrom most n m (l ∷ ls) ≡ number ∷ n ∷ []
   unfolding textFrom
   text-stops number (bad f a) = rw (f, a) refl
-  text-stops number (empty e f z a) = rw a (entry-told e f (refusalNumber Refusal.EmptyKey ∷ []) (empty-says most m (e .1) (e .0) z))
-  text-stops number (full e f d many a) = rw a (entry-told e f (refusalNumber Refusal.NoRoom ∷ []) (full-says most m (e .1) (e .0) d many))
+  text-stops number (emptyKey e f z a) = rw a (entry-told e f (refuses Refusal.EmptyKey) (empty-says most m (e .1) (e .0) z))
+  text-stops number (noRoom e f d many a) = rw a (entry-told e f (refuses Refusal.NoRoom) (full-says most m (e .1) (e .0) d many))
 
 pub cause-number : (most : ℕ) (m : Map) (l : List ℕ) (number : ℕ) → Cause most m l number → ¬ (number ≡ 0)
 cause-number most m l number (bad f a) z = omega (arith, a, z)
-cause-number most m l number (empty e f z a) o = omega (arith, a, o)
-cause-number most m l number (full e f d many a) z = omega (arith, a, z)
+cause-number most m l number (emptyKey e f z a) o = omega (arith, a, o)
+cause-number most m l number (noRoom e f d many a) z = omega (arith, a, z)
 
 -- so an answer of 0 is no refusal's
 not-stopped : (most n : ℕ) (m : Map) (l : List ℕ) (ls : List (List ℕ)) (number : ℕ) → Cause most m l number → ¬ (textFrom most n m (l ∷ ls) ≡ 0 ∷ [])
@@ -267,7 +267,7 @@ fill-text (l ∷ ls) n p s b = go (tabEntry l) refl (λ q t. fill-text ls (suc n
         let q : Pool = pushPool p (e .0) (e .1) in
         let room : capacity q ≡ capacity p = rw (length-push p (e .0) (e .1) kb) in
         rw f
-        (same-step (pushSays p (e .0)) (mapSays (capacity p) (poolMap p) (Call.push (e .0) (e .1))) (call-says p s (Call.push (e .0) (e .1))) n
+        (same-step (pushSays p (e .0)) (mapSays (capacity p) (poolMap p) (PoolCall.push (e .0) (e .1))) (call-says p s (PoolCall.push (e .0) (e .1))) n
         (fillFrom (suc n) q ls) (textFrom (capacity p) (suc n) (insert (e .0) (e .1) (poolMap p)) ls)
         (λ a.
         let m : poolMap q ≡ insert (e .0) (e .1) (poolMap p) = push-means-insert p (e .0) (e .1) kb a in

@@ -41,7 +41,7 @@ use Rattle.walks.proofs.Laws.MapImage.{length-nodes, run-node}
 use Rattle.walks.proofs.Laws.MapWalk.{kid, node-value}
 use Rattle.walks.proofs.Laws.Rule.{countsTo-upto}
 use Rattle.climbs.specs.declared.order.Given.the-variants.{Entry, Nothing}
-use Rattle.climbs.specs.Order.{orElse, firstBy, oneBehind, besideBy, climbedFrom, climbBy, advanceBy, soughtFrom, nextBy, givenOf, Under, givenBy}
+use Rattle.climbs.specs.Order.{orElse, firstBy, oneBehind, besideBy, climbedFrom, climbBy, advanceBy, soughtFrom, nextBy, givenOf, UnderTop, givenBy}
 use Rattle.climbs.proofs.Laws.MapClimb.{upper-node, StepUp, step-up, upper-path}
 use Rattle.climbs.proofs.Laws.Order.{oneBehind-inside, oneBehind-told, first-run, beside-at, climbed-top, climbed-on, next-starts, sought-done, sought-lost, sought-value, sought-on}
 
@@ -86,7 +86,7 @@ record Climbing (m : Map) (top node at : ℕ) : Type 0 where
   begins : PrefixOf (pathOf m at) (pathOf m node)
   done : LastIn (pathsBelow m (pathOf m at)) (pathOf m node)
 
-module _ (m : Map) (c : Catalogue m) (top node : ℕ) (under : Under m top node) where
+module _ (m : Map) (c : Catalogue m) (top node : ℕ) (under : UnderTop m top node) where
   climb-starts : LastIn (childrenIn m (pathOf m node)) (pathOf m node) → Climbing m top node node
   climb-starts n =
       record { inside = under .inside; over = under .begins; begins = prefix-refl (pathOf m node); done = last-child m (pathOf m node) n }
@@ -129,7 +129,7 @@ module _ (m : Map) (c : Catalogue m) (top node : ℕ) (under : Under m top node)
 
 -- a search from a node has come to `at`: what is to be given is still the least above it
 record Seeking (m : Map) (top node at : ℕ) : Type 0 where
-  under : Under m top at
+  under : UnderTop m top at
   same : leastAbove (pathOf m node) (beginning (pathOf m top) m) ≡ leastAbove (pathOf m at) (beginning (pathOf m top) m)
 
 module _ (m : Map) (c : Catalogue m) (top node at : ℕ) (seeking : Seeking m top node at) where
@@ -259,7 +259,7 @@ module _ (i : Image) (h : MapImage i) where
           bare true f = absurd (r (back (oneBehind-told b len q f .0) (oneBehind-told b len q f .1)))
           bare false f = f
 
-  climb-lands : (left top node : ℕ) → Under m top node → (at : ℕ) → at < left → Climbing m top node at
+  climb-lands : (left top node : ℕ) → UnderTop m top node → (at : ℕ) → at < left → Climbing m top node at
       → Landed m (pathsBelow m (pathOf m top)) (pathOf m node) (climbedFrom b len last top left (some at))
   climb-lands zero top node under at l k = absurd (omega (arith, l))
   climb-lands (suc left) top node under at l k = go (ℕ-discrete at top) (λ up u c. climb-lands left top node under up u c)
@@ -285,7 +285,7 @@ module _ (i : Image) (h : MapImage i) where
           turn none none-next =
               goes-on up (omega (arith, l, step-up m (h .catalogue) at (k .inside) low .lower)) (climb-up m (h .catalogue) top node under at k d none-next)
 
-  advance-lands : (top at : ℕ) → Under m top at → Landed m (pathsBelow m (pathOf m top)) (pathOf m at) (advanceBy b len last top at)
+  advance-lands : (top at : ℕ) → UnderTop m top at → Landed m (pathsBelow m (pathOf m top)) (pathOf m at) (advanceBy b len last top at)
   unfolding advanceBy climbBy
   advance-lands top at under = turn (firstBy b len last at) (first-lands at (under .inside))
     where
@@ -324,7 +324,7 @@ module _ (i : Image) (h : MapImage i) where
               ∙ goes-on k (seek-on m (h .catalogue) top node at s k inside next (sym (node-value i h k inside) ∙ e))
               (omega (arith, l, seek-fewer m (h .catalogue) top node at s k inside next))
 
-  pub next-path : (top node : ℕ) → Under (imageMap i) top node
+  pub next-path : (top node : ℕ) → UnderTop (imageMap i) top node
       → givenOf (nextBy (i .labels) (i .values) (bit (i .words)) (bitsFor (entries i)) top node)
       ≡ givenBy (imageMap i) (leastAbove (pathOf (imageMap i) node) (beginning (pathOf (imageMap i) top) (imageMap i)))
   next-path top node under =

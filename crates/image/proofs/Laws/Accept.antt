@@ -38,7 +38,7 @@ use Rattle.louds.specs.Rank.{onesBefore, zerosBefore}
 use Rattle.louds.proofs.Laws.Rank.{ones-zeros, zeros-ext}
 use Rattle.louds.proofs.Laws.Select.{kth-rank}
 use Rattle.louds.proofs.Laws.Nodes.{child-of-parent, parent-at}
-use Rattle.image.specs.Accept.{entries, entryOf, parentIn, kidsIn, ParentBelow, HasChild, Accepted, OfMap, Lent}
+use Rattle.image.specs.Accept.{entries, nodeEntry, parentIn, kidsIn, ParentBelow, HasChild, Accepted, OfMap, LentSlices}
 use Rattle.image.proofs.Laws.Spelled.{inList, Spelled, zeros-sequence, spelled-words, spelled-unused, spelled-first, spelled-zeros, spelled-ones, spelled-within, spelled-children, spelled-parent, ChildOf, spelled-parent-of, child-parent}
 
 -- ---- equal answers have equal numbers
@@ -99,7 +99,7 @@ module _ (i : Image) (d : ℕ) (ds : List ℕ) (c : Shape i d ds) where
       }
 
       rising : (l m : ℕ) → l < m → parentIn i l ≡ parentIn i m → ChildOf i (d ∷ ds) shape-spelled l → ChildOf i (d ∷ ds) shape-spelled m
-          → labelIn (entryOf i l) < labelIn (entryOf i m)
+          → labelIn (nodeEntry i l) < labelIn (nodeEntry i m)
       rising l m less same p q =
           let up = child-parent i (d ∷ ds) shape-spelled p in
           let up′ = child-parent i (d ∷ ds) shape-spelled q in
@@ -111,7 +111,7 @@ module _ (i : Image) (d : ℕ) (ds : List ℕ) (c : Shape i d ds) where
           let b : sum (q .index) + (p .child + (q .child - p .child - 1) + 1) ≡ m - 2 = omega (arith, p .number, q .number) in
           rw (a, b) at run
 
-      child : (m : ℕ) → 2 ≤ m → m ≤ entries i + 1 → entryOf i m < mark → HasChild i m
+      child : (m : ℕ) → 2 ≤ m → m ≤ entries i + 1 → nodeEntry i m < mark → HasChild i m
       child m lo hi u =
           let e : ℕ = m - 2 in
           let at : m ≡ suc e + 1 = omega arith in
@@ -198,7 +198,7 @@ module _ (i : Image) (a : Accepted i) where
       let all : zerosBefore (inList (sequence spells)) (bitsFor n) ≡ length spells + 1 = ap (zerosBefore (inList (sequence spells))) (sym long) ∙ zeros-sequence spells in
       omega (arith, same, all, a .zeros)
 
-  module _ (l : Lent i) where
+  module _ (l : LentSlices i) where
     spells-spelled : Spelled i spells
     spells-spelled = record {
       packed = sym (pack-unpack (bitsFor n) (i .words) (a .words-fit) (l .words-wide) (a .unused)) ∙ ap pack bits-sequence;
@@ -282,7 +282,7 @@ module _ (i : Image) (a : Accepted i) where
 
 -- ---- accepted exactly if some map has the image
 
-module _ (i : Image) (l : Lent i) (a : Accepted i) where
+module _ (i : Image) (l : LentSlices i) (a : Accepted i) where
   pub accepted-forest : forestImage (decode i) ≡ i
   accepted-forest = let s = accepted-shape i a l in shape-image i (s .top) (s .rest) (s .shape)
 
@@ -304,7 +304,7 @@ module _ (i : Image) (l : Lent i) (a : Accepted i) where
 pub map-accepted : (m : Map) → Catalogue m → length (prefixes m) ≤ mostRecords → Accepted (image m)
 map-accepted m c few = shape-accepted (image m) _ _ (map-shape m c few)
 
-pub accepted-iff : (i : Image) → Lent i → Accepted i ↔ OfMap i
+pub accepted-iff : (i : Image) → LentSlices i → Accepted i ↔ OfMap i
 accepted-iff i l = (
   λ a. record { map = imageMap i; catalogue = accepted-catalogue i l a; few = accepted-few i l a; whole = accepted-image i l a },
   λ m. subst Accepted (m .whole) (map-accepted (m .map) (m .catalogue) (m .few)),

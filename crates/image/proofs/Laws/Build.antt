@@ -17,7 +17,7 @@ use native.Mathlib.Omega.{arith}
 use lib.ListN.{length, getD, take}
 use lib.Dec.{leb, eqb}
 use borrow.Author.Tests.{le-leb, lt-leb, leb-true, le-ltb, lt-ltb}
-use Rattle.keymap.specs.Refusals.{Refusal, refusalNumber}
+use Rattle.keymap.specs.Refusals.{Refusal, refuses}
 use Rattle.keymap.specs.Bits.{wordsFor}
 use Rattle.keymap.specs.Image.{bitsFor}
 use Rattle.records.specs.Words.{Pool, recordWords, entry, value, usedCount}
@@ -68,17 +68,17 @@ left-written : {t : Bool} (xs ys : List ℕ) → t ≡ true → xs ≡ cond t xs
 left-written xs ys e = ap (λ (b : Bool). cond b xs ys) (sym e)
 
 module _ (p : Pool) (ls vs ws qs : List ℕ) where
-  pub says-small : length p < recordWords → refusalNumber Refusal.PoolTooSmall ∷ [] ≡ buildSays p ls vs ws qs
+  pub says-small : length p < recordWords → refuses Refusal.PoolTooSmall ≡ buildSays p ls vs ws qs
   unfolding buildSays
   says-small h = simp (lt-ltb _ _ h)
 
-  pub says-unsound : recordWords ≤ length p → soundTest p ≡ false → refusalNumber Refusal.NotAPool ∷ [] ≡ buildSays p ls vs ws qs
+  pub says-unsound : recordWords ≤ length p → soundTest p ≡ false → refuses Refusal.NotAPool ≡ buildSays p ls vs ws qs
   unfolding buildSays
   says-unsound h e = simp (le-ltb _ _ h, e)
 
   -- n is the count of the records in use
   module _ (n : ℕ) (count : n ≡ usedCount p) (long : recordWords ≤ length p) (sound : soundTest p ≡ true) where
-    pub says-short : buffersFit n (length ls) (length vs) (length ws) (length qs) ≡ false → refusalNumber Refusal.OutTooSmall ∷ [] ≡ buildSays p ls vs ws qs
+    pub says-short : buffersFit n (length ls) (length vs) (length ws) (length qs) ≡ false → refuses Refusal.OutTooSmall ≡ buildSays p ls vs ws qs
     unfolding buildSays fitSays
     says-short f = simp (le-ltb _ _ long, sound, ← count, f)
 

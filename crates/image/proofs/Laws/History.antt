@@ -28,7 +28,7 @@ use Rattle.pool.proofs.Laws.Meaning.{reset-means-empty}
 use Rattle.pool.proofs.Laws.History.{call-says, call-map, call-sound, call-capacity, reset-run-sound, reset-run-map, reset-run-within}
 use Rattle.image.specs.Accept.{OfMap}
 use Rattle.image.specs.Build.{fitSays, buildSays}
-use Rattle.image.specs.History.{Call, poolCalls, runSays, mapRunSays}
+use Rattle.image.specs.History.{Call, poolCalls, historySays, mapHistorySays}
 use Rattle.image.proofs.Laws.Build.{says-sound}
 use Rattle.image.proofs.Laws.PoolImage.{Shows, build-means-image}
 
@@ -36,26 +36,26 @@ pub build-says : (p : Pool) → Sound p → (ls vs ws qs : List ℕ) → buildSa
 build-says p s ls vs ws qs =
     says-sound p ls vs ws qs s ∙ ap (λ (n : ℕ). fitSays n (length ls) (length vs) (length ws) (length qs)) (sym (count-prefixes p s))
 
-pub run-says : (cs : List Call) (p : Pool) → Sound p → AllLent (poolCalls cs) → runSays p cs ≡ mapRunSays (capacity p) (poolMap p) cs
-unfolding runSays mapRunSays poolCalls
+pub run-says : (cs : List Call) (p : Pool) → Sound p → AllLent (poolCalls cs) → historySays p cs ≡ mapHistorySays (capacity p) (poolMap p) cs
+unfolding historySays mapHistorySays poolCalls
 run-says [] p s l = refl
 run-says (Call.onPool c ∷ cs) p s l =
     let first = call-says p s c in
     let rest = run-says cs _ (call-sound p s c (l .0)) (l .1) in
     let m = call-map p s c (l .0) in
     let n = call-capacity p s c (l .0) in
-    λ i. first i ∷ (rest ∙ (λ j. mapRunSays (n j) (m j) cs)) i
+    λ i. first i ∷ (rest ∙ (λ j. mapHistorySays (n j) (m j) cs)) i
 run-says (Call.build ls vs ws qs ∷ cs) p s l =
     let first = build-says p s ls vs ws qs in
     let rest = run-says cs p s l in
     λ i. first i ∷ rest i
 
 module _ (p : Pool) (h : recordWords ≤ length p) (cs : List Call) (lent : AllLent (poolCalls cs)) where
-  pub reset-run-says : runSays (resetPool p) cs ≡ mapRunSays (capacity p) [] cs
+  pub reset-run-says : historySays (resetPool p) cs ≡ mapHistorySays (capacity p) [] cs
   reset-run-says =
       let e : capacity (resetPool p) ≡ capacity p = rw (length-reset p) in
       let m = reset-means-empty p h in
-      run-says cs (resetPool p) (reset-sound p h) lent ∙ (λ i. mapRunSays (e i) (m i) cs)
+      run-says cs (resetPool p) (reset-sound p h) lent ∙ (λ i. mapHistorySays (e i) (m i) cs)
 
   pub reset-run-build : (ls vs ws qs : List ℕ) → accepted (buildSays (runPool (resetPool p) (poolCalls cs)) ls vs ws qs) ≡ true
       → Shows (image (mapRun (capacity p) [] (poolCalls cs))) (runPool (resetPool p) (poolCalls cs)) ls vs ws qs

@@ -26,7 +26,7 @@ use lib.Dec.{eqb}
 use borrow.Author.Tests.{eq-eqb, ne-eqb}
 use Rattle.keymap.proofs.Laws.Children.{flatMap-append}
 use Rattle.records.specs.Words.{Pool, firstChild, nextSibling, parent, usedCount, InUse, Node}
-use Rattle.records.specs.Sound.{In, Chain, Children, Sound}
+use Rattle.records.specs.Sound.{Among, Chain, Children, Sound}
 use Rattle.records.proofs.Laws.Distinct.{Once, in-append, in-left, in-right, once-append}
 use Rattle.records.proofs.Laws.Sound.{rises-distinct}
 use Rattle.records.proofs.Laws.Reached.{used-at-most, used-at-least, reached}
@@ -89,12 +89,12 @@ taken-ahead p (suc m) (c ∷ q) h (suc k) l =
     let e = ap length (append-assoc q (childRecords p c) (flatMap (childRecords p) (take k (takenFrom p m (q ++ childRecords p c))))) in
     omega (arith, r, e)
 
-once-apart : (c : ℕ) (xs ys : List ℕ) → Once (xs ++ ys) → In c xs → In c ys → ⊥
+once-apart : (c : ℕ) (xs ys : List ℕ) → Once (xs ++ ys) → Among c xs → Among c ys → ⊥
 once-apart c [] ys d h m = h
-once-apart c (x ∷ xs) ys d (inl e) m = d .0 (subst (λ (k : ℕ). In k (xs ++ ys)) e (in-right c xs ys m))
+once-apart c (x ∷ xs) ys d (inl e) m = d .0 (subst (λ (k : ℕ). Among k (xs ++ ys)) e (in-right c xs ys m))
 once-apart c (x ∷ xs) ys d (inr h) m = once-apart c xs ys (d .1) h m
 
-pub getD-in : (xs : List ℕ) (i : ℕ) → i < length xs → In (getD xs i 0) xs
+pub getD-in : (xs : List ℕ) (i : ℕ) → i < length xs → Among (getD xs i 0) xs
 getD-in [] i l = absurd (omega arith)
 getD-in (x ∷ xs) zero l = inl refl
 getD-in (x ∷ xs) (suc i) l = inr (getD-in xs i (omega arith))
@@ -115,18 +115,18 @@ module _ (p : Pool) (s : Sound p) where
     child-once : Once (childRecords p c)
     child-once = rw (child-records c asked) (rises-distinct p 0 (asked .kids) (asked .rising))
 
-    pub child-only : (x : ℕ) → In x (childRecords p c) → InUse p x × (parent p x ≡ c)
+    pub child-only : (x : ℕ) → Among x (childRecords p c) → InUse p x × (parent p x ≡ c)
     child-only = rw (child-records c asked) (asked .only)
 
-    child-all : (x : ℕ) → InUse p x → parent p x ≡ c → In x (childRecords p c)
+    child-all : (x : ℕ) → InUse p x → parent p x ≡ c → Among x (childRecords p c)
     child-all = rw (child-records c asked) (asked .all)
 
   -- these are taken, and these wait in the queue
   record Met (done q : List ℕ) : Type 0 where
     once : Once (done ++ q)
-    used : (x : ℕ) → In x (done ++ q) → InUse p x
-    below : (x : ℕ) → In x (done ++ q) → In (parent p x) (0 ∷ done)
-    all : (x : ℕ) → InUse p x → In (parent p x) (0 ∷ done) → In x (done ++ q)
+    used : (x : ℕ) → Among x (done ++ q) → InUse p x
+    below : (x : ℕ) → Among x (done ++ q) → Among (parent p x) (0 ∷ done)
+    all : (x : ℕ) → InUse p x → Among (parent p x) (0 ∷ done) → Among x (done ++ q)
 
   met-root : Met [] (childRecords p 0)
   met-root = record {
@@ -150,20 +150,20 @@ module _ (p : Pool) (s : Sound p) where
       together : (done ++ (c ∷ [])) ++ (q ++ childRecords p c) ≡ (done ++ c ∷ q) ++ childRecords p c
       together = append-snoc done c (q ++ childRecords p c) ∙ sym (append-assoc done (c ∷ q) (childRecords p c))
 
-      split : (x : ℕ) → In x ((done ++ (c ∷ [])) ++ (q ++ childRecords p c)) → In x (done ++ c ∷ q) ⊎ In x (childRecords p c)
+      split : (x : ℕ) → Among x ((done ++ (c ∷ [])) ++ (q ++ childRecords p c)) → Among x (done ++ c ∷ q) ⊎ Among x (childRecords p c)
       split x h = in-append x (done ++ c ∷ q) (childRecords p c) (rw together at h)
 
-      further : (y : ℕ) → In y (0 ∷ done) → In y (0 ∷ (done ++ (c ∷ [])))
+      further : (y : ℕ) → Among y (0 ∷ done) → Among y (0 ∷ (done ++ (c ∷ [])))
       further y h = ⊎-elim (λ e. inl e) (λ a. inr (in-left y done (c ∷ []) a)) h
 
-      nearer : (y : ℕ) → In y (0 ∷ (done ++ (c ∷ []))) → In y (0 ∷ done) ⊎ (y ≡ c)
+      nearer : (y : ℕ) → Among y (0 ∷ (done ++ (c ∷ []))) → Among y (0 ∷ done) ⊎ (y ≡ c)
       nearer y h = ⊎-elim (λ e. inl (inl e)) (λ a. ⊎-elim (λ b. inl (inr b)) (λ d. ⊎-elim (λ e. inr e) (λ z. absurd z) d) (in-append y done (c ∷ []) a)) h
 
-      apart : (x : ℕ) → In x (done ++ c ∷ q) → In x (childRecords p c) → ⊥
+      apart : (x : ℕ) → Among x (done ++ c ∷ q) → Among x (childRecords p c) → ⊥
       apart x a b =
           let e : parent p x ≡ c = child-only c node x b .1 in
           let u = m .used c (in-right c done (c ∷ q) (inl refl)) in
-          ⊎-elim (λ (z : parent p x ≡ 0). omega arith) (λ d. once-apart c done (c ∷ q) (m .once) (subst (λ (k : ℕ). In k done) e d) (inl refl)) (m .below x a)
+          ⊎-elim (λ (z : parent p x ≡ 0). omega arith) (λ d. once-apart c done (c ∷ q) (m .once) (subst (λ (k : ℕ). Among k done) e d) (inl refl)) (m .below x a)
 
   met-taken : (m : ℕ) (done q : List ℕ) → Met done q → Met (done ++ takenFrom p m q) (leftFrom p m q)
   unfolding takenFrom leftFrom
@@ -197,13 +197,13 @@ module _ (p : Pool) (s : Sound p) where
   pub level-once : Once order
   level-once = rw append-nil at (met-order .once)
 
-  pub level-used : (x : ℕ) → In x order → InUse p x
+  pub level-used : (x : ℕ) → Among x order → InUse p x
   level-used x h = met-order .used x (in-left x order [] h)
 
-  pub level-all : (x : ℕ) → InUse p x → In x order
-  level-all x u = ⊎-elim (λ (e : x ≡ 0). absurd (omega arith)) (λ h. h) (reached p (λ c. In c (0 ∷ order)) (inl refl) (λ c v h. inr (found c v h)) s x u)
+  pub level-all : (x : ℕ) → InUse p x → Among x order
+  level-all x u = ⊎-elim (λ (e : x ≡ 0). absurd (omega arith)) (λ h. h) (reached p (λ c. Among c (0 ∷ order)) (inl refl) (λ c v h. inr (found c v h)) s x u)
     where
-      found : (c : ℕ) → InUse p c → In (parent p c) (0 ∷ order) → In c order
+      found : (c : ℕ) → InUse p c → Among (parent p c) (0 ∷ order) → Among c order
       found c v h = ⊎-elim (λ a. a) (λ z. absurd z) (in-append c order [] (met-order .all c v h))
 
   pub level-count : length order ≡ usedCount p

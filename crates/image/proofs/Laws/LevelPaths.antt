@@ -25,8 +25,8 @@ use Rattle.keymap.proofs.Laws.Prefixes.{prefixes-iff}
 use Rattle.keymap.proofs.Laws.Children.{flatMap-append, forest-children}
 use Rattle.keymap.proofs.Laws.Paths.{childrenIn-iff, childrenIn-ordered, below-label}
 use Rattle.records.specs.Words.{Pool, label, parent, usedCount, InUse, Node}
-use Rattle.records.specs.Sound.{In, LabelsRise, Children, Sound}
-use Rattle.records.specs.Spelling.{Spells, pathOf}
+use Rattle.records.specs.Sound.{Among, LabelsRise, Children, Sound}
+use Rattle.records.specs.Spelling.{Spells, recordPath}
 use Rattle.records.specs.Meaning.{poolForest, poolMap}
 use Rattle.records.proofs.Laws.Spelling.{spells-child, spells-cut, spells-one-record, path-spells, path-only}
 use Rattle.records.proofs.Laws.Sound.{rises-above}
@@ -62,12 +62,12 @@ module _ {A : Type 0} (below : A → List A) (root : A) where
 
 -- ---- the children of a record, in paths
 
-in-members : (c : ℕ) (xs : List ℕ) → In c xs → members.In c xs
+in-members : (c : ℕ) (xs : List ℕ) → Among c xs → members.In c xs
 in-members c [] h = absurd h
 in-members c (x ∷ xs) (inl e) = members.here e
 in-members c (x ∷ xs) (inr h) = members.there (in-members c xs h)
 
-members-in : (c : ℕ) (xs : List ℕ) → members.In c xs → In c xs
+members-in : (c : ℕ) (xs : List ℕ) → members.In c xs → Among c xs
 members-in c [] h = absurd (List·Memᴰ·not-nil h)
 members-in c (x ∷ xs) h = ⊎-elim (λ e. inl e) (λ i. inr (members-in c xs i)) (List·Memᴰ·cases-cons h)
 
@@ -75,87 +75,87 @@ module _ (p : Pool) (s : Sound p) where
   abbrev kept : Map
   kept = poolMap p
 
-  child-path : (c x : ℕ) → Node p c → InUse p x → parent p x ≡ c → pathOf p x ≡ pathOf p c ++ (label p x ∷ [])
+  child-path : (c x : ℕ) → Node p c → InUse p x → parent p x ≡ c → recordPath p x ≡ recordPath p c ++ (label p x ∷ [])
   child-path c x n u e =
-      sym (path-only p s x (pathOf p c ++ (label p x ∷ [])) (inr u) (spells-child p 0 (pathOf p c) c (label p x) x (path-spells p s c n) (u, e, refl)))
+      sym (path-only p s x (recordPath p c ++ (label p x ∷ [])) (inr u) (spells-child p 0 (recordPath p c) c (label p x) x (path-spells p s c n) (u, e, refl)))
 
   -- siblings in their chain stand as their paths do
-  paths-rise : (c : ℕ) → Node p c → (xs : List ℕ) (l : ℕ) → LabelsRise p l xs → ((x : ℕ) → In x xs → InUse p x × (parent p x ≡ c)) → members.Ordered Below (map (pathOf p) xs)
+  paths-rise : (c : ℕ) → Node p c → (xs : List ℕ) (l : ℕ) → LabelsRise p l xs → ((x : ℕ) → Among x xs → InUse p x × (parent p x ≡ c)) → members.Ordered Below (map (recordPath p) xs)
   paths-rise c n [] l r o = tt
   paths-rise c n (x ∷ xs) l r o = (behind, paths-rise c n xs (label p x + 1) (r .1) (λ y i. o y (inr i)))
     where
-      behind : (q : Key) → members.In q (map (pathOf p) xs) → Below (pathOf p x) q
+      behind : (q : Key) → members.In q (map (recordPath p) xs) → Below (recordPath p x) q
       behind q h =
-          let (y, i, e) = in-map (pathOf p) q xs .0 h in
+          let (y, i, e) = in-map (recordPath p) q xs .0 h in
           let j = members-in y xs i in
           let higher : label p x + 1 ≤ label p y = rises-above p (label p x + 1) xs (r .1) y j in
           let lower = child-path c x n (o x (inl refl) .0) (o x (inl refl) .1) in
           let upper = child-path c y n (o y (inr j) .0) (o y (inr j) .1) in
-          subst (λ (t : Key). Below (pathOf p x) t) (sym (e ∙ upper))
-          (subst (λ (t : Key). Below t (pathOf p c ++ (label p y ∷ []))) (sym lower) (below-label (pathOf p c) (label p x) (label p y) .1 (omega arith)))
+          subst (λ (t : Key). Below (recordPath p x) t) (sym (e ∙ upper))
+          (subst (λ (t : Key). Below t (recordPath p c ++ (label p y ∷ []))) (sym lower) (below-label (recordPath p c) (label p x) (label p y) .1 (omega arith)))
 
-  child-paths : (c : ℕ) → Node p c → map (pathOf p) (childRecords p c) ≡ childrenIn kept (pathOf p c)
+  child-paths : (c : ℕ) → Node p c → map (recordPath p) (childRecords p c) ≡ childrenIn kept (recordPath p c)
   child-paths c n =
-      ap (map (pathOf p)) (child-records p s c k)
-      ∙ ordered-one Below below-asym (map (pathOf p) (k .kids)) (childrenIn kept (pathOf p c)) (paths-rise c n (k .kids) 0 (k .rising) (k .only)) (childrenIn-ordered kept (map-rising p s) (pathOf p c)) same
+      ap (map (recordPath p)) (child-records p s c k)
+      ∙ ordered-one Below below-asym (map (recordPath p) (k .kids)) (childrenIn kept (recordPath p c)) (paths-rise c n (k .kids) 0 (k .rising) (k .only)) (childrenIn-ordered kept (map-rising p s) (recordPath p c)) same
     where
       k : Children p c
       k = s .children c n
 
-      forth : (q : Key) → members.In q (map (pathOf p) (k .kids)) → members.In q (childrenIn kept (pathOf p c))
+      forth : (q : Key) → members.In q (map (recordPath p) (k .kids)) → members.In q (childrenIn kept (recordPath p c))
       forth q h =
-          let (x, i, e) = in-map (pathOf p) q (k .kids) .0 h in
+          let (x, i, e) = in-map (recordPath p) q (k .kids) .0 h in
           let (u, up) = k .only x (members-in x (k .kids) i) in
           let there = prefixes-iff kept q .0 (map-prefixes p s q .1 (x, u, e)) in
-          childrenIn-iff kept (pathOf p c) q .1 (label p x, e ∙ child-path c x n u up, there .1)
+          childrenIn-iff kept (recordPath p c) q .1 (label p x, e ∙ child-path c x n u up, there .1)
 
-      back : (q : Key) → members.In q (childrenIn kept (pathOf p c)) → members.In q (map (pathOf p) (k .kids))
+      back : (q : Key) → members.In q (childrenIn kept (recordPath p c)) → members.In q (map (recordPath p) (k .kids))
       back q h =
-          let (a, e, b) = childrenIn-iff kept (pathOf p c) q .0 h in
-          let long : q ≡ [] → ⊥ = λ z. omega (arith, ap length (sym e ∙ z), length-append (pathOf p c) (a ∷ [])) in
+          let (a, e, b) = childrenIn-iff kept (recordPath p c) q .0 h in
+          let long : q ≡ [] → ⊥ = λ z. omega (arith, ap length (sym e ∙ z), length-append (recordPath p c) (a ∷ [])) in
           let (x, u, f) = map-prefixes p s q .0 (prefixes-iff kept q .1 (long, b)) in
-          let (j, above, below) = spells-cut p 0 (pathOf p c) (a ∷ []) x (subst (λ (t : Key). Spells p 0 t x) (sym f ∙ e) (path-spells p s x (inr u))) in
-          let same = spells-one-record p (s .children) 0 (pathOf p c) j c (inl refl) above (path-spells p s c n) in
+          let (j, above, below) = spells-cut p 0 (recordPath p c) (a ∷ []) x (subst (λ (t : Key). Spells p 0 t x) (sym f ∙ e) (path-spells p s x (inr u))) in
+          let same = spells-one-record p (s .children) 0 (recordPath p c) j c (inl refl) above (path-spells p s c n) in
           let up : parent p x ≡ c = ap (parent p) (sym (below .2)) ∙ below .1 .1 ∙ same in
-          in-map (pathOf p) q (k .kids) .1 (x, in-members x (k .kids) (k .all x u up), f)
+          in-map (recordPath p) q (k .kids) .1 (x, in-members x (k .kids) (k .all x u up), f)
 
-      same : (q : Key) → members.In q (map (pathOf p) (k .kids)) ↔ members.In q (childrenIn kept (pathOf p c))
+      same : (q : Key) → members.In q (map (recordPath p) (k .kids)) ↔ members.In q (childrenIn kept (recordPath p c))
       same q = (forth q, back q)
 
   -- ---- the level order, in paths
 
-  below-paths : (cs : List ℕ) → ((c : ℕ) → In c cs → Node p c) → map (pathOf p) (flatMap (childRecords p) cs) ≡ flatMap (childrenIn kept) (map (pathOf p) cs)
+  below-paths : (cs : List ℕ) → ((c : ℕ) → Among c cs → Node p c) → map (recordPath p) (flatMap (childRecords p) cs) ≡ flatMap (childrenIn kept) (map (recordPath p) cs)
   unfolding flatMap
   below-paths [] n = refl
   below-paths (c ∷ cs) n =
-      map-append (pathOf p) (childRecords p c) (flatMap (childRecords p) cs)
+      map-append (recordPath p) (childRecords p c) (flatMap (childRecords p) cs)
       ∙ ap₂ (λ (a b : List Key). a ++ b) (child-paths c (n c (inl refl))) (below-paths cs (λ d i. n d (inr i)))
 
-  root-path : pathOf p 0 ≡ []
+  root-path : recordPath p 0 ≡ []
   root-path = sym (path-only p s 0 [] (inl refl) refl)
 
   abbrev walked : List Key
-  walked = map (pathOf p) (levelRecords p)
+  walked = map (recordPath p) (levelRecords p)
 
-  used-nodes : (c : ℕ) → In c (0 ∷ levelRecords p) → Node p c
+  used-nodes : (c : ℕ) → Among c (0 ∷ levelRecords p) → Node p c
   used-nodes c (inl e) = inl e
   used-nodes c (inr h) = inr (level-used p s c h)
 
   walked-law : walked ≡ flatMap (childrenIn kept) ([] ∷ walked)
   walked-law =
-      ap (map (pathOf p)) (level-law p s)
+      ap (map (recordPath p)) (level-law p s)
       ∙ below-paths (0 ∷ levelRecords p) used-nodes
       ∙ ap (λ (k : Key). flatMap (childrenIn kept) (k ∷ walked)) root-path
 
   prefixes-law : prefixes kept ≡ flatMap (childrenIn kept) ([] ∷ prefixes kept)
   prefixes-law = rw (map-forest p) (forest-children (poolForest p) (forest-orderly p s))
 
-  map-take : (k : ℕ) (cs : List ℕ) → take k (map (pathOf p) cs) ≡ map (pathOf p) (take k cs)
+  map-take : (k : ℕ) (cs : List ℕ) → take k (map (recordPath p) cs) ≡ map (recordPath p) (take k cs)
   map-take zero cs = refl
   map-take (suc k) [] = refl
-  map-take (suc k) (c ∷ cs) = ap (λ (l : List Key). pathOf p c ∷ l) (map-take k cs)
+  map-take (suc k) (c ∷ cs) = ap (λ (l : List Key). recordPath p c ∷ l) (map-take k cs)
 
-  take-nodes : (k : ℕ) (cs : List ℕ) → ((c : ℕ) → In c cs → Node p c) → (c : ℕ) → In c (take k cs) → Node p c
+  take-nodes : (k : ℕ) (cs : List ℕ) → ((c : ℕ) → Among c cs → Node p c) → (c : ℕ) → Among c (take k cs) → Node p c
   take-nodes zero cs n c h = absurd h
   take-nodes (suc k) [] n c h = absurd h
   take-nodes (suc k) (d ∷ cs) n c (inl e) = n c (inl e)
@@ -164,31 +164,31 @@ module _ (p : Pool) (s : Sound p) where
   walked-ahead : (k : ℕ) → k < usedCount p → k < length (made (childrenIn kept) [] k walked)
   unfolding queued
   walked-ahead k h =
-      let paths : map (pathOf p) (queued p (suc k)) ≡ made (childrenIn kept) [] k walked =
+      let paths : map (recordPath p) (queued p (suc k)) ≡ made (childrenIn kept) [] k walked =
       below-paths (0 ∷ take k (levelRecords p)) (take-nodes (suc k) (0 ∷ levelRecords p) used-nodes)
       ∙ ap₂ (λ (t : Key) (l : List Key). flatMap (childrenIn kept) (t ∷ l)) root-path (sym (map-take k (levelRecords p))) in
-      omega (arith, queued-ahead p s (suc k) h, ap length paths, length-map (queued p (suc k)) (pathOf p))
+      omega (arith, queued-ahead p s (suc k) h, ap length paths, length-map (queued p (suc k)) (recordPath p))
 
-  pub level-paths : map (pathOf p) (levelRecords p) ≡ prefixes (poolMap p)
+  pub level-paths : map (recordPath p) (levelRecords p) ≡ prefixes (poolMap p)
   level-paths =
       let n : ℕ = usedCount p in
-      let left : length walked ≤ n = omega (arith, length-map (levelRecords p) (pathOf p), level-count p s) in
+      let left : length walked ≤ n = omega (arith, length-map (levelRecords p) (recordPath p), level-count p s) in
       let right : length (prefixes kept) ≤ n = omega (arith, count-prefixes p s) in
       sym (take-all n walked left) ∙ made-one (childrenIn kept) [] walked (prefixes kept) walked-law prefixes-law n walked-ahead n (le-refl n) ∙ take-all n (prefixes kept) right
 
   -- "entry j of it ends holding the record number of node j+2"
   pub scratch-node : (ls vs ws qs : List ℕ) → accepted (buildSays p ls vs ws qs) ≡ true → (j : ℕ) → j < usedCount p
-      → InUse p (getD (buildScratch p ls vs ws qs) j 0) × (pathOf p (getD (buildScratch p ls vs ws qs) j 0) ≡ paths.pathOf (poolMap p) (suc (suc j)))
+      → InUse p (getD (buildScratch p ls vs ws qs) j 0) × (recordPath p (getD (buildScratch p ls vs ws qs) j 0) ≡ paths.pathOf (poolMap p) (suc (suc j)))
   unfolding buildScratch paths.pathOf paths.nodes
   scratch-node ls vs ws qs e j h =
       let inside : j < length (levelRecords p) = omega (arith, level-count p s) in
       let at : getD (cond (accepted (buildSays p ls vs ws qs)) (over (levelRecords p) qs) qs) j 0 ≡ getD (levelRecords p) j 0 =
       ap (λ (b : Bool). getD (cond b (over (levelRecords p) qs) qs) j 0) e ∙ getD-over (levelRecords p) qs j inside in (
         subst (InUse p) (sym at) (level-used p s (getD (levelRecords p) j 0) (getD-in (levelRecords p) j inside)),
-        ap (pathOf p) at ∙ sym (getD-mapped (levelRecords p) j inside) ∙ ap (λ (l : List Key). getD l j []) level-paths,
+        ap (recordPath p) at ∙ sym (getD-mapped (levelRecords p) j inside) ∙ ap (λ (l : List Key). getD l j []) level-paths,
       )
     where
-      getD-mapped : (cs : List ℕ) (i : ℕ) → i < length cs → getD (map (pathOf p) cs) i [] ≡ pathOf p (getD cs i 0)
+      getD-mapped : (cs : List ℕ) (i : ℕ) → i < length cs → getD (map (recordPath p) cs) i [] ≡ recordPath p (getD cs i 0)
       getD-mapped [] i l = absurd (omega arith)
       getD-mapped (c ∷ cs) zero l = refl
       getD-mapped (c ∷ cs) (suc i) l = getD-mapped cs i (omega arith)

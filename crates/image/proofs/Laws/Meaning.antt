@@ -25,16 +25,16 @@ use Rattle.keymap.proofs.Laws.Bits.{pack-lt}
 use Rattle.keymap.proofs.Laws.Degrees.{sequence-small}
 use Rattle.keymap.proofs.Laws.Image.{length-imageLabels, length-imageValues}
 use Rattle.keymap.proofs.Laws.Paths.{values-node}
-use Rattle.image.specs.Accept.{Accepted, Lent}
+use Rattle.image.specs.Accept.{Accepted, LentSlices}
 use Rattle.image.specs.AcceptTest.{imageTest}
 use Rattle.image.specs.Meaning.{MapImage}
 use Rattle.image.proofs.Laws.Accept.{accepted-catalogue, accepted-image, map-accepted}
 use Rattle.image.proofs.Laws.Passed.{test-accepted, accepted-test}
 
-pub accepted-mapImage : (i : Image) → Lent i → Accepted i → MapImage i
+pub accepted-mapImage : (i : Image) → LentSlices i → Accepted i → MapImage i
 accepted-mapImage i l a = record { few = a .few; catalogue = accepted-catalogue i l a; whole = accepted-image i l a }
 
-pub tested-mapImage : (i : Image) → Lent i → imageTest i ≡ true → MapImage i
+pub tested-mapImage : (i : Image) → LentSlices i → imageTest i ≡ true → MapImage i
 tested-mapImage i l h = accepted-mapImage i l (test-accepted i h)
 
 pub mapImage-accepted : (i : Image) → MapImage i → Accepted i
@@ -48,7 +48,7 @@ value-small : (m : Map) → Catalogue m → (p : Key) (o : Option ℕ) → looku
 value-small m c p none e = omega arith
 value-small m c p (some v) e = proper-in m (c .proper) (p, v) (lookup-iff p v m (c .rising) .0 e) .2
 
-pub mapImage-lent : (i : Image) → MapImage i → Lent i
+pub mapImage-lent : (i : Image) → MapImage i → LentSlices i
 unfolding image imageBits
 mapImage-lent i h =
     record {

@@ -31,7 +31,7 @@ use Rattle.louds.specs.Rank.{gap, onesBefore, zerosBefore}
 use Rattle.louds.proofs.Laws.Rank.{gap-small, gap-zero, bit-gap, ones-zeros}
 use Rattle.louds.proofs.Laws.Select.{Stands, rank-kth, kth-rank, kth-exists}
 use Rattle.louds.proofs.Laws.Nodes.{children-to-zero}
-use Rattle.image.specs.Accept.{entries, entryOf, valueOf, parentIn, ParentBelow, HasChild, Accepted, Lent}
+use Rattle.image.specs.Accept.{entries, nodeEntry, nodeValue, parentIn, ParentBelow, HasChild, Accepted, LentSlices}
 use Rattle.image.proofs.Laws.Accept.{node-same, run-count, one-parent, accepted-climbs, accepted-second}
 use Rattle.image.proofs.Laws.AcceptTest.{bitFits-one, bitFits-closing, bitFits-childless}
 use Rattle.image.specs.AcceptTest.{childlessFits, bitFits, passesFrom, lengthsFit, endsFit, imageTest}
@@ -141,13 +141,13 @@ module _ (i : Image) where
           high = omega (arith, node-fits m h .climbs, h .rank);
         }
 
-    pub passed-small : (m : ℕ) → 2 ≤ m → m ≤ n + 1 → entryOf i m < 2 * mark
+    pub passed-small : (m : ℕ) → 2 ≤ m → m ≤ n + 1 → nodeEntry i m < 2 * mark
     passed-small m lo hi =
         let h = node-at m lo hi in
         let e : onesBefore b (suc (h .before)) - 1 ≡ m - 2 = omega (arith, h .rank) in
         rw e at (node-fits m h .small)
 
-    pub passed-plain : (m : ℕ) → 2 ≤ m → m ≤ n + 1 → entryOf i m < mark → valueOf i m ≡ 0
+    pub passed-plain : (m : ℕ) → 2 ≤ m → m ≤ n + 1 → nodeEntry i m < mark → nodeValue i m ≡ 0
     passed-plain m lo hi u =
         let h = node-at m lo hi in
         let e : onesBefore b (suc (h .before)) - 1 ≡ m - 2 = omega (arith, h .rank) in
@@ -168,13 +168,13 @@ module _ (i : Image) where
         one-parent i (h .before) (m - 1) (omega (arith, h .inside)) e (omega (arith, sumBelow-suc b (h .before), h .rank))
         ∙ ap Node (omega (arith, sumBelow-suc (gap b) (h .before), bit-gap b small (h .before))) ∙ sym (h .parent)
 
-    sibling-rises : (m : ℕ) (h : NodeAt m) → 3 ≤ m → b (h .before) ≡ 1 → labelIn (entryOf i (m - 1)) < labelIn (entryOf i m)
+    sibling-rises : (m : ℕ) (h : NodeAt m) → 3 ≤ m → b (h .before) ≡ 1 → labelIn (nodeEntry i (m - 1)) < labelIn (nodeEntry i m)
     sibling-rises m h l e =
         let here : onesBefore b (suc (h .before)) - 2 ≡ m - 1 - 2 = omega (arith, h .rank) in
         let next : m - 1 - 2 + 1 ≡ m - 2 = omega arith in
         rw (here, next) at (node-fits m h .rises e)
 
-    passed-rises : (g l m : ℕ) → m ≡ l + g + 1 → 2 ≤ l → m ≤ n + 1 → parentIn i l ≡ parentIn i m → labelIn (entryOf i l) < labelIn (entryOf i m)
+    passed-rises : (g l m : ℕ) → m ≡ l + g + 1 → 2 ≤ l → m ≤ n + 1 → parentIn i l ≡ parentIn i m → labelIn (nodeEntry i l) < labelIn (nodeEntry i m)
     passed-rises zero l m e lo hi same =
         let h = node-at m (omega arith) hi in
         let last = sibling-rises m h (omega arith) (sibling-before l m (node-at l lo (omega arith)) h (omega arith) same) in
@@ -188,7 +188,7 @@ module _ (i : Image) where
         omega arith
 
     -- an unmarked node is not closed at once
-    passed-child : (m : ℕ) → 2 ≤ m → m ≤ n + 1 → entryOf i m < mark → HasChild i m
+    passed-child : (m : ℕ) → 2 ≤ m → m ≤ n + 1 → nodeEntry i m < mark → HasChild i m
     passed-child m lo hi u =
         let f = kth-exists (gap b) (bitsFor n) m (omega arith) (omega (arith, zeros-all)) in
         let g = kth-exists (gap b) (bitsFor n) (m + 1) (omega arith) (omega (arith, zeros-all)) in
@@ -319,7 +319,7 @@ module _ (i : Image) where
         plain = λ m lo hi u. (passed-plain i t m lo hi u, passed-child i t m lo hi u);
       }
 
-  pub accepted-test : Lent i → Accepted i → imageTest i ≡ true
+  pub accepted-test : LentSlices i → Accepted i → imageTest i ≡ true
   unfolding imageTest lengthsFit endsFit
   accepted-test l a =
       let n : ℕ = entries i in
@@ -335,5 +335,5 @@ module _ (i : Image) where
       )
       (start-same (a .first) second ∙ passes)
 
-  pub imageTest-iff : Lent i → (imageTest i ≡ true) ↔ Accepted i
+  pub imageTest-iff : LentSlices i → (imageTest i ≡ true) ↔ Accepted i
   imageTest-iff l = (test-accepted, accepted-test l)

@@ -26,8 +26,8 @@ use Rattle.keymap.specs.Decode.{imageMap}
 use Rattle.keymap.proofs.Laws.Label.{labelEntry-back, valueWord-back}
 use Rattle.keymap.proofs.Laws.LevelOrder.{image-listForest}
 use Rattle.keymap.proofs.Laws.Image.{imageMap-image}
-use Rattle.records.specs.Words.{Pool, entry, label, value, valueOf, lastRecord, usedCount, InUse, Node, Bounded}
-use Rattle.records.specs.Sound.{In, Sound}
+use Rattle.records.specs.Words.{Pool, entry, label, value, recordValue, lastRecord, usedCount, InUse, Node, Bounded}
+use Rattle.records.specs.Sound.{Among, Sound}
 use Rattle.records.specs.Spelling.{Spells}
 use Rattle.records.specs.Meaning.{forestBelow, poolForest, poolMap}
 use Rattle.records.proofs.Laws.Spelling.{spells-child, spells-most}
@@ -44,11 +44,11 @@ abbrev pub Hangs : Pool → Forest → List ℕ → Type 0
 Hangs p empty [] = Unit {0}
 Hangs p empty (x ∷ xs) = ⊥
 Hangs p (node a w kids next) [] = ⊥
-Hangs p (node a w kids next) (x ∷ xs) = (a ≡ label p x) × (w ≡ valueOf p x) × Hangs p kids (childRecords p x) × Hangs p next xs
+Hangs p (node a w kids next) (x ∷ xs) = (a ≡ label p x) × (w ≡ recordValue p x) × Hangs p kids (childRecords p x) × Hangs p next xs
 
 -- what an image says of a record
 abbrev pub recordRow : Pool → ℕ → Row
-recordRow p c = record { label = label p c; value = valueOf p c; degree = recordDegree p c }
+recordRow p c = record { label = label p c; value = recordValue p c; degree = recordDegree p c }
 
 module _ (p : Pool) where
   hangs-width : (f : Forest) (xs : List ℕ) → Hangs p f xs → width f ≡ length xs
@@ -79,7 +79,7 @@ module _ (p : Pool) where
       let r = rows-hangs m (join next kids) (q ++ childRecords p x) (hangs-join next q kids (childRecords p x) (h .3) (h .2)) in
       λ i. record { label = l i; value = v i; degree = d i } ∷ r i
 
-  hangs-of : (below : ℕ → Forest) (xs : List ℕ) → ((x : ℕ) → In x xs → Hangs p (below x) (childRecords p x)) → Hangs p (forestOf p below xs) xs
+  hangs-of : (below : ℕ → Forest) (xs : List ℕ) → ((x : ℕ) → Among x xs → Hangs p (below x) (childRecords p x)) → Hangs p (forestOf p below xs) xs
   hangs-of below [] h = tt
   hangs-of below (x ∷ xs) h = (refl, refl, h x (inl refl), hangs-of below xs (λ y i. h y (inr i)))
 
@@ -92,7 +92,7 @@ module _ (p : Pool) where
         go : (xs : List ℕ) → childRecords p c ≡ xs → Hangs p empty xs
         go [] e = tt
         go (x ∷ xs) e =
-            let o = child-only p s c n x (subst (In x) (sym e) (inl refl)) in
+            let o = child-only p s c n x (subst (Among x) (sym e) (inl refl)) in
             let path : Key = k ++ (label p x ∷ []) in
             absurd (omega (arith, spells-most p path x (spells-child p 0 k c (label p x) x h (o .0, o .1, refl)), length-append k (label p x ∷ [])))
     hangs-below (suc f) k c n h l =
@@ -115,7 +115,7 @@ module _ (p : Pool) where
     level-say : (said : Row → ℕ) (told : ℕ → ℕ) → ((c : ℕ) → InUse p c → told c ≡ said (recordRow p c)) → map told (levelRecords p) ≡ map said (rows (poolForest p))
     level-say said told e = go (levelRecords p) (level-used p s) ∙ sym (ap (map said) rows-level ∙ map-map said (recordRow p) (levelRecords p))
       where
-        go : (cs : List ℕ) → ((c : ℕ) → In c cs → InUse p c) → map told cs ≡ map (λ c. said (recordRow p c)) cs
+        go : (cs : List ℕ) → ((c : ℕ) → Among c cs → InUse p c) → map told cs ≡ map (λ c. said (recordRow p c)) cs
         go [] u = refl
         go (c ∷ cs) u = ap₂ (λ (x : ℕ) (xs : List ℕ). x ∷ xs) (e c (u c (inl refl))) (go cs (λ d i. u d (inr i)))
 

@@ -24,11 +24,11 @@ use Rattle.keymap.proofs.Laws.Entries.{getD-labels, getD-values}
 use Rattle.keymap.proofs.Laws.Shape.{shape-degree, shape-size}
 use Rattle.louds.specs.declared.Kids.the-variants.{Run}
 use Rattle.louds.specs.declared.Up.the-variants.{Node}
-use Rattle.image.specs.Accept.{entries, parentIn, kidsIn, Accepted, Lent}
+use Rattle.image.specs.Accept.{entries, parentIn, kidsIn, Accepted, LentSlices}
 use Rattle.image.proofs.Laws.Spelled.{inList, spelled-children, spelled-parent}
 use Rattle.image.proofs.Laws.Accept.{accepted-shape, accepted-forest, shape-spelled}
 
-module _ (i : Image) (l : Lent i) (a : Accepted i) where
+module _ (i : Image) (l : LentSlices i) (a : Accepted i) where
   abbrev trie : Forest
   trie = decode i
 

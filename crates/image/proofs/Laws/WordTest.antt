@@ -37,7 +37,7 @@ use Rattle.louds.proofs.Laws.Words.{ones-low, ones-in-word}
 use Rattle.louds.specs.Digits.{digit, complement}
 use Rattle.louds.proofs.Laws.Digits.{digit-either, digit-half, digit-shr, digit-beyond, digit-or, digit-mod, digit-mod-none, complement-digit, shifted-low, and-both, and-one}
 use Rattle.image.specs.AcceptTest.{entryFits, labelsRise, childlessFits, passesFrom}
-use Rattle.image.specs.Meaning.{lent}
+use Rattle.image.specs.Meaning.{asImage}
 use Rattle.image.specs.WordTest.{allBelow, entriesFit, parentAt, siblingAt, leafAt, zerosOf, prevOf, lastBefore, wordFits, wordAt, WordInside, Counted, Framed}
 use Rattle.image.proofs.Laws.AcceptTest.{labelsRise-is, bitFits-one, bitFits-closing, bitFits-childless}
 use Rattle.image.proofs.Laws.BitTests.{both, oneFits-made, entryFits-told, entryFits-made}
@@ -319,18 +319,18 @@ wordAt-is ls ws w = refl
 
 module _ (ls vs ws : List ℕ) where
   abbrev i : Image
-  i = lent ls vs ws
+  i = asImage ls vs ws
 
   abbrev c : ℕ → ℕ
   c = bit ws
 
   abbrev pub pass : Bool
-  pass = passesFrom (lent ls vs ws) (2 * length ls + 1) 2 1 0
+  pass = passesFrom (asImage ls vs ws) (2 * length ls + 1) 2 1 0
 
   -- the pass gives what it asks
-  framed-passed : Framed ls ws → pass ≡ true → Passed (lent ls vs ws)
+  framed-passed : Framed ls ws → pass ≡ true → Passed (asImage ls vs ws)
   framed-passed f h =
-      let told = passes-told (lent ls vs ws) (2 * length ls + 1) 1 (sym (start-same (lent ls vs ws) (f .first) (f .second)) ∙ h) in
+      let told = passes-told (asImage ls vs ws) (2 * length ls + 1) 1 (sym (start-same (asImage ls vs ws) (f .first) (f .second)) ∙ h) in
       let last : suc 1 + (2 * length ls + 1) ≡ bitsFor (length ls) = omega arith in
       record {
         first = f .first;
@@ -342,19 +342,19 @@ module _ (ls vs ws : List ℕ) where
   pub count-stop : Framed ls ws → (onesBefore (bit ws) (bitsFor (length ls)) ≡ length ls + 1 → ⊥) → pass ≡ false
   count-stop f h = false-by pass (λ t. h (framed-passed f t .ones))
 
-  entry-passed : Passed (lent ls vs ws) → (e : ℕ) → e < length ls → entryFits (getD ls e 0) (getD vs e 0) ≡ true
+  entry-passed : Passed (asImage ls vs ws) → (e : ℕ) → e < length ls → entryFits (getD ls e 0) (getD vs e 0) ≡ true
   entry-passed t e l =
       let m : ℕ = e + 2 in
       let here : m - 2 ≡ e = omega arith in
-      entryFits-made (getD ls e 0) (getD vs e 0) (rw here at (passed-small (lent ls vs ws) t m (omega arith) (omega arith)))
-      (λ u. rw here at (passed-plain (lent ls vs ws) t m (omega arith) (omega arith) (rw here u)))
+      entryFits-made (getD ls e 0) (getD vs e 0) (rw here at (passed-small (asImage ls vs ws) t m (omega arith) (omega arith)))
+      (λ u. rw here at (passed-plain (asImage ls vs ws) t m (omega arith) (omega arith) (rw here u)))
 
   pub entries-stop : Framed ls ws → entriesFit ls vs ≡ false → pass ≡ false
   entries-stop f h =
       false-by pass (λ t. not-both (entriesFit ls vs) (all-made (λ e. entryFits (getD ls e 0) (getD vs e 0)) (length ls) (entry-passed (framed-passed f t))) h)
 
   module _ (k : Counted ls ws) where
-    place-of : Passed (lent ls vs ws) → (p : ℕ) → Place ls ws p
+    place-of : Passed (asImage ls vs ws) → (p : ℕ) → Place ls ws p
     unfolding previous
     place-of t zero = record {
       parent = λ one. omega arith;
@@ -368,16 +368,16 @@ module _ (ls vs ws : List ℕ) where
     }
     place-of t (suc (suc q)) = record {
       parent = λ one.
-          let h = one-after (lent ls vs ws) t (suc q) (omega arith) (inside-one ls ws k 0 (suc (suc q)) one) one in
+          let h = one-after (asImage ls vs ws) t (suc q) (omega arith) (inside-one ls ws k 0 (suc (suc q)) one) one in
           omega (arith, h .climbs, ones-zeros c (bit-small ws) (suc (suc q)));
       sibling = λ one prev.
-          let h = one-after (lent ls vs ws) t (suc q) (omega arith) (inside-one ls ws k 0 (suc (suc q)) one) one in
+          let h = one-after (asImage ls vs ws) t (suc q) (omega arith) (inside-one ls ws k 0 (suc (suc q)) one) one in
           labelsRise-is ls (onesBefore c (suc (suc q)) - 2) ∙ lt-ltb _ _ (h .rises prev);
       leaf = λ less none prev.
           sym (bitFits-childless ls vs (c (suc (suc q))) (c (suc q)) (onesBefore c (suc (suc q))) (zerosBefore c (suc (suc q))) none prev) ∙ t .each (suc q) (omega arith) less;
     }
 
-    fits-of : entriesFit ls vs ≡ true → (q : ℕ) → 1 ≤ q → suc q < bitsFor (length ls) → Place ls ws (suc q) → FitsAfter (lent ls vs ws) q
+    fits-of : entriesFit ls vs ≡ true → (q : ℕ) → 1 ≤ q → suc q < bitsFor (length ls) → Place ls ws (suc q) → FitsAfter (asImage ls vs ws) q
     unfolding previous
     fits-of fit q lo hi at-place = ⊎-elim one none (bit-either ws (suc q))
       where
@@ -387,7 +387,7 @@ module _ (ls vs ws : List ℕ) where
         entry : (e : ℕ) → e < length ls → (getD ls e 0 < 2 * mark) × (getD ls e 0 < mark → getD vs e 0 ≡ 0)
         entry e l = entryFits-told (getD ls e 0) (getD vs e 0) (all-told (λ j. entryFits (getD ls j 0) (getD vs j 0)) (length ls) fit e l)
 
-        one : c (suc q) ≡ 1 → FitsAfter (lent ls vs ws) q
+        one : c (suc q) ≡ 1 → FitsAfter (asImage ls vs ws) q
         one h =
             let few : o ≤ length ls = few-before ls ws k 0 (suc q) h in
             let some : 1 ≤ o = some-before ls ws k 0 (suc q) (omega arith) in
@@ -401,7 +401,7 @@ module _ (ls vs ws : List ℕ) where
               rises = λ prev. ltb-true _ _ (sym (labelsRise-is ls (o - 2)) ∙ at-place .sibling h prev);
             })
 
-        none : c (suc q) ≡ 0 → FitsAfter (lent ls vs ws) q
+        none : c (suc q) ≡ 0 → FitsAfter (asImage ls vs ws) q
         none h =
             ⊎-elim
             (λ prev. bitFits-closing ls vs (c (suc q)) (c q) o (zerosBefore c (suc q)) h (λ z. omega arith))
@@ -427,5 +427,5 @@ module _ (ls vs ws : List ℕ) where
         to : allBelow (wordAt ls ws) (length ws) ≡ true → pass ≡ true
         to h =
             let last : suc 1 + (2 * n + 1) ≡ bitsFor n = omega arith in
-            start-same (lent ls vs ws) (k .framed .first) (k .framed .second)
-            ∙ passes-made (lent ls vs ws) (2 * n + 1) 1 (λ q lo hi. fits-of fit q lo (omega arith) (place h (suc q) (omega arith))) (ap (onesBefore c) last ∙ k .ones)
+            start-same (asImage ls vs ws) (k .framed .first) (k .framed .second)
+            ∙ passes-made (asImage ls vs ws) (2 * n + 1) 1 (λ q lo hi. fits-of fit q lo (omega arith) (place h (suc q) (omega arith))) (ap (onesBefore c) last ∙ k .ones)

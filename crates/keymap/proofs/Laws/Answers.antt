@@ -9,16 +9,16 @@ use mathlib.Core.List.{List, [], _∷_, _++_}
 use lib.ListN.{length, drop}
 use borrow.Author.Tests.{le-leb, lt-leb}
 use Rattle.keymap.specs.Key.{Key}
-use Rattle.keymap.specs.Refusals.{refusalNumber, KeyRoom}
+use Rattle.keymap.specs.Refusals.{refuses, KeyRoom}
 use Rattle.keymap.specs.Answers.{saysWritten, writtenTo}
 
-pub record Written (k : Key) (out : List ℕ) (says : List ℕ) (after : List ℕ) : Type 0 where
+pub record KeyWritten (k : Key) (out : List ℕ) (says : List ℕ) (after : List ℕ) : Type 0 where
   pub says-is : saysWritten k out ≡ says
   pub after-is : writtenTo k out ≡ after
 
 module _ (k : Key) (out : List ℕ) where
-  pub written-fits : length k ≤ length out → Written k out (0 ∷ length k ∷ []) (k ++ drop (length k) out)
+  pub written-fits : length k ≤ length out → KeyWritten k out (0 ∷ length k ∷ []) (k ++ drop (length k) out)
   written-fits l = record { says-is = rw (le-leb (length k) (length out) l); after-is = rw (le-leb (length k) (length out) l) }
 
-  pub written-short : length out < length k → Written k out (refusalNumber KeyRoom ∷ []) out
+  pub written-short : length out < length k → KeyWritten k out (refuses KeyRoom) out
   written-short l = record { says-is = rw (lt-leb (length k) (length out) l); after-is = rw (lt-leb (length k) (length out) l) }

@@ -70,16 +70,16 @@ rows-claim r q h =
     rw (rows-node, take-drop, width-drop, e)
 
 -- each row finds as many trees in the queue as it has children
-abbrev pub Fits : List Row → Type 0
-Fits [] = Unit {0}
-Fits (r ∷ rs) = (r .degree ≤ width (rebuild rs)) × Fits rs
+abbrev pub RowsFit : List Row → Type 0
+RowsFit [] = Unit {0}
+RowsFit (r ∷ rs) = (r .degree ≤ width (rebuild rs)) × RowsFit rs
 
-pub rows-rebuild : (rs : List Row) → Fits rs → rows (rebuild rs) ≡ rs
+pub rows-rebuild : (rs : List Row) → RowsFit rs → rows (rebuild rs) ≡ rs
 unfolding rebuild rows visit size
 rows-rebuild [] h = refl
 rows-rebuild (r ∷ rs) h = rows-claim r (rebuild rs) (h .0) ∙ ap (λ (q : List Row). r ∷ q) (rows-rebuild rs (h .1))
 
-fits-visit : (n : ℕ) (f : Forest) → size f ≡ n → Fits (visit n f)
+fits-visit : (n : ℕ) (f : Forest) → size f ≡ n → RowsFit (visit n f)
 unfolding visit size
 fits-visit zero f h = tt
 fits-visit (suc n) empty h = tt
@@ -87,6 +87,6 @@ fits-visit (suc n) (node a w kids next) h =
     let e : size (join next kids) ≡ n = omega (arith, size-join next kids) in
     (rw (rebuild-visit n (join next kids) e) (omega (arith, width-join next kids)), fits-visit n (join next kids) e)
 
-pub fits-rows : (f : Forest) → Fits (rows f)
+pub fits-rows : (f : Forest) → RowsFit (rows f)
 unfolding rows
 fits-rows f = fits-visit (size f) f refl

@@ -25,7 +25,7 @@ use Rattle.keymap.proofs.Laws.Sums.{sumBelow-first}
 use Rattle.keymap.proofs.Laws.Label.{labelEntry-back, valueWord-back}
 use Rattle.keymap.proofs.Laws.Degrees.{total-take}
 use Rattle.keymap.proofs.Laws.BreadthFirst.{length-rows}
-use Rattle.keymap.proofs.Laws.Decode.{Fits, rows-rebuild}
+use Rattle.keymap.proofs.Laws.Decode.{RowsFit, rows-rebuild}
 use Rattle.keymap.proofs.Laws.Image.{ByteRows}
 
 -- ---- rows that fit
@@ -40,17 +40,17 @@ width-claim : (r : Row) (q : Forest) → width (claim r q) ≡ suc (width q - r 
 unfolding claim width
 width-claim r q = ap suc (width-take (width q - r .degree) q (omega arith))
 
-width-rebuild : (rs : List Row) → Fits rs → width (rebuild rs) + total (map rowDegree rs) ≡ length rs
+width-rebuild : (rs : List Row) → RowsFit rs → width (rebuild rs) + total (map rowDegree rs) ≡ length rs
 unfolding rebuild total width
 width-rebuild [] h = refl
 width-rebuild (r ∷ rs) h = omega (arith, width-claim r (rebuild rs), width-rebuild rs (h .1), h .0)
 
 -- the rows from each one on have fewer children than there are rows behind it
-fits-drop : (rs : List Row) → ((k : ℕ) → k < length rs → total (drop k (map rowDegree rs)) + suc k ≤ length rs) → Fits rs
+fits-drop : (rs : List Row) → ((k : ℕ) → k < length rs → total (drop k (map rowDegree rs)) + suc k ≤ length rs) → RowsFit rs
 unfolding total
 fits-drop [] h = tt
 fits-drop (r ∷ rs) h =
-    let f : Fits rs = fits-drop rs (λ k l. omega (arith, h (suc k) (omega arith))) in
+    let f : RowsFit rs = fits-drop rs (λ k l. omega (arith, h (suc k) (omega arith))) in
     (omega (arith, h 0 (omega arith), width-rebuild rs f), f)
 
 total-split : (ds : List ℕ) (k : ℕ) → total (take k ds) + total (drop k ds) ≡ total ds
@@ -137,7 +137,7 @@ module _ (d : ℕ) (ds ls vs : List ℕ) (t : Told d ds ls vs) where
   length-told : length rs ≡ length ls
   length-told = sym (length-map rs rowDegree) ∙ ap length told-degrees ∙ t .many
 
-  fits-told : Fits rs
+  fits-told : RowsFit rs
   unfolding total
   fits-told = fits-drop rs (λ k l. rw (told-degrees, length-told) (left k (omega (arith, length-told))))
     where

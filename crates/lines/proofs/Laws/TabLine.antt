@@ -19,11 +19,11 @@ use lib.Dec.{ltb}
 use borrow.Author.Tests.{lt-ltb, le-ltb, ltb-true, not-true}
 use Rattle.keymap.specs.Key.{Key}
 use Rattle.keymap.specs.Map.{Entry}
-use Rattle.keymap.specs.Refusals.{Refusal, refusalNumber}
+use Rattle.keymap.specs.Refusals.{Refusal, refuses}
 use Rattle.keymap.proofs.Laws.Begins.{both-true}
 use Rattle.lines.specs.Bytes.{tab, lineFeed, holds, stretch}
 use Rattle.lines.specs.Decimal.{numberIn}
-use Rattle.lines.specs.TabLine.{keyPart, numberPart, entryOf, tabEntry, entrySays, entryKey, tabLineSays, tabLineKey}
+use Rattle.lines.specs.TabLine.{keyPart, numberPart, withNumber, tabEntry, entrySays, entryKey, tabLineSays, tabLineKey}
 use Rattle.lines.proofs.Laws.Bytes.{stretch-within, stretch-split, stretch-append, holds-take, holds-whole, holds-append}
 
 pub tabEntry-no-tab : (line : List ℕ) → length line ≤ stretch tab line → tabEntry line ≡ none
@@ -38,12 +38,12 @@ pub tabEntry-lf : (line : List ℕ) → stretch lineFeed line < stretch tab line
 unfolding tabEntry
 tabEntry-lf line h = simp (keyPart-lf line, lt-ltb _ _ h, and-false)
 
-pub tabEntry-parts : (line : List ℕ) → holds tab line ≡ true → holds lineFeed (keyPart line) ≡ false → tabEntry line ≡ entryOf (keyPart line) (numberIn (numberPart line))
+pub tabEntry-parts : (line : List ℕ) → holds tab line ≡ true → holds lineFeed (keyPart line) ≡ false → tabEntry line ≡ withNumber (keyPart line) (numberIn (numberPart line))
 unfolding tabEntry
 tabEntry-parts line h l = rw (h, l)
 
 pub tabEntry-number : (line : List ℕ) → stretch tab line < length line → stretch tab line ≤ stretch lineFeed line
-    → tabEntry line ≡ entryOf (keyPart line) (numberIn (numberPart line))
+    → tabEntry line ≡ withNumber (keyPart line) (numberIn (numberPart line))
 tabEntry-number line h l = tabEntry-parts line (holds-whole tab line ∙ lt-ltb _ _ h) (keyPart-lf line ∙ le-ltb _ _ l)
 
 pub line-parts : (line : List ℕ) → stretch tab line < length line → line ≡ keyPart line ++ (tab ∷ numberPart line)
@@ -73,7 +73,7 @@ pub tabEntry-some : (line : List ℕ) (e : Entry) → tabEntry line ≡ some e �
 unfolding tabEntry
 tabEntry-some line e h = go (holds tab line && not (holds lineFeed (keyPart line))) refl
   where
-    found : (o : Option ℕ) → numberIn (numberPart line) ≡ o → entryOf (keyPart line) o ≡ some e → holds tab line ≡ true → holds lineFeed (keyPart line) ≡ false → Split line e
+    found : (o : Option ℕ) → numberIn (numberPart line) ≡ o → withNumber (keyPart line) o ≡ some e → holds tab line ≡ true → holds lineFeed (keyPart line) ≡ false → Split line e
     found none q r t l = absurd (let z : _≡_ {A = ℕ} 0 1 = cc in omega arith)
     found (some v) q r t l =
         let pair : (keyPart line, v) ≡ e = cc in
@@ -95,7 +95,7 @@ pub length-keyPart : (line : List ℕ) → length (keyPart line) ≡ stretch tab
 unfolding keyPart
 length-keyPart line = length-take-le (stretch tab line) line (stretch-within tab line)
 
-pub tabLineSays-none : (line : List ℕ) → tabEntry line ≡ none → tabLineSays line ≡ refusalNumber Refusal.BadLine ∷ []
+pub tabLineSays-none : (line : List ℕ) → tabEntry line ≡ none → tabLineSays line ≡ refuses Refusal.BadLine
 unfolding tabLineSays
 tabLineSays-none line h = rw h
 
@@ -103,11 +103,11 @@ pub tabLineSays-some : (line : List ℕ) (e : Entry) → tabEntry line ≡ some 
 unfolding tabLineSays
 tabLineSays-some line e h = rw h
 
-pub tabLineKey-none : (line : List ℕ) → tabLineSays line ≡ refusalNumber Refusal.BadLine ∷ [] → tabLineKey line ≡ []
+pub tabLineKey-none : (line : List ℕ) → tabLineSays line ≡ refuses Refusal.BadLine → tabLineKey line ≡ []
 unfolding tabLineSays tabLineKey
 tabLineKey-none line = go (tabEntry line)
   where
-    go : (o : Option Entry) → entrySays o ≡ refusalNumber Refusal.BadLine ∷ [] → entryKey o ≡ []
+    go : (o : Option Entry) → entrySays o ≡ refuses Refusal.BadLine → entryKey o ≡ []
     go none h = refl
     go (some e) h = absurd (let z : _≡_ {A = ℕ} 0 1 = cc in omega arith)
 

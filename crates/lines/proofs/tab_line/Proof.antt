@@ -11,20 +11,20 @@ use borrow.Author.Needs.{needs}
 use Rattle.lines.specs.Bytes.{tab, lineFeed, stretch}
 use Rattle.lines.specs.Decimal.{numberIn}
 use Rattle.lines.specs.Numerals.{spelled}
-use Rattle.lines.specs.TabLine.{keyPart, numberPart, entryOf, tabEntry, tabLineSays}
+use Rattle.lines.specs.TabLine.{keyPart, numberPart, withNumber, tabEntry, tabLineSays}
 use Rattle.lines.proofs.Laws.TabLine.{tabEntry-no-tab, tabEntry-lf, tabEntry-number, length-keyPart, tabLineSays-none, tabLineSays-some}
 use Rattle.lines.proofs.tab_line.Statement.{statement}
 use Rattle.lines.proofs.tab_line.Tie as tie
 
 -- where the two bytes are found, and what the rest spells
 decided : (line : List ℕ) (t l : ℕ) (o : Option ℕ) → t ≡ 0 + stretch tab line → t < length line → l ≡ 0 + stretch lineFeed line → t ≤ l
-    → o ≡ numberIn (take (length line - (t + 1)) (drop (t + 1) line)) → tabEntry line ≡ entryOf (keyPart line) o
+    → o ≡ numberIn (take (length line - (t + 1)) (drop (t + 1) line)) → tabEntry line ≡ withNumber (keyPart line) o
 unfolding numberPart
 decided line t l o e h f g q =
     let at : stretch tab line ≡ t = omega arith in
     let behind : take (length line - (t + 1)) (drop (t + 1) line) ≡ drop (t + 1) line = take-all (length line - (t + 1)) (drop (t + 1) line) (simp length-drop (omega arith)) in
     let number : numberIn (numberPart line) ≡ o = rw (at, ← add-one, ← behind) (sym q) in
-    tabEntry-number line (omega arith) (omega arith) ∙ ap (entryOf (keyPart line)) number
+    tabEntry-number line (omega arith) (omega arith) ∙ ap (withNumber (keyPart line)) number
 
 refused : (line : List ℕ) → tabEntry line ≡ none → 9 ∷ [] ≡ tabLineSays line
 refused line h = sym (tabLineSays-none line h)

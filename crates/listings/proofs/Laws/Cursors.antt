@@ -22,7 +22,7 @@ use lib.Dec.{ltb}
 use borrow.Author.Tests.{ltb-true, lt-ltb}
 use Rattle.keymap.specs.Members.{In, here}
 use Rattle.keymap.specs.Answers.{given}
-use Rattle.keymap.specs.Refusals.{refusalNumber, NotAnImage, BadPlace}
+use Rattle.keymap.specs.Refusals.{refuses, NotAnImage, BadPlace}
 use Rattle.keymap.specs.Key.{Key, beginsWith, PrefixOf, extends}
 use Rattle.keymap.specs.Map.{Entry, Map, Rising, Catalogue, lookup}
 use Rattle.keymap.specs.Queries.{nonempty, SomeBegins, beginning, longer, isPrefixIn, leastAbove}
@@ -45,7 +45,7 @@ use Rattle.listings.specs.declared.answers.Cursor.{Cursor}
 use Rattle.listings.specs.declared.answers.Cursor.the-variants.{Open, Finished}
 use Rattle.climbs.specs.declared.order.Given.the-variants as gives
 use Rattle.listings.specs.Answers.{saidCursor}
-use Rattle.climbs.specs.Order.{Under, givenBy}
+use Rattle.climbs.specs.Order.{UnderTop, givenBy}
 use Rattle.listings.specs.Cursors.{setOf, lastBelongs, belongs, startSays, nextIn, saysEnd, saysStep, stepSays}
 use Rattle.walks.proofs.Laws.MapImage.{length-prefixes}
 
@@ -141,17 +141,17 @@ module _ (m : Map) (kind : Kind) (top last : ℕ) where
   unfolding belongs
   belongs-top h = isNode-iff m top .0 (both-true (isNode m top) (lastBelongs m (setOf m kind (pathOf m top)) last) .0 h .0)
 
-  pub belongs-under : Rising m → belongs m (Open kind top last) ≡ true → ¬ (last ≡ 0) → Under m top last
+  pub belongs-under : Rising m → belongs m (Open kind top last) ≡ true → ¬ (last ≡ 0) → UnderTop m top last
   unfolding belongs
   belongs-under r h n = go last n (both-true (isNode m top) (lastBelongs m (setOf m kind (pathOf m top)) last) .0 h .1)
     where
-      found : (k : ℕ) → IsNode m k → (o : Option ℕ) → lookup (pathOf m k) (setOf m kind (pathOf m top)) ≡ o → given o ≡ true → Under m top k
+      found : (k : ℕ) → IsNode m k → (o : Option ℕ) → lookup (pathOf m k) (setOf m kind (pathOf m top)) ≡ o → given o ≡ true → UnderTop m top k
       found k i none e g = absurd (false≢true g)
       found k i (some v) e g =
           let member = lookup-iff (pathOf m k) v (setOf m kind (pathOf m top)) (setOf-rising m r kind (pathOf m top)) .0 e in
           record { top-inside = belongs-top h; inside = i; begins = setOf-in m r kind (pathOf m top) (pathOf m k, v) member .1 }
 
-      go : (k : ℕ) → ¬ (k ≡ 0) → lastBelongs m (setOf m kind (pathOf m top)) k ≡ true → Under m top k
+      go : (k : ℕ) → ¬ (k ≡ 0) → lastBelongs m (setOf m kind (pathOf m top)) k ≡ true → UnderTop m top k
       go zero d g = absurd (d refl)
       go (suc k) d g =
           let (i, e) = both-true (isNode m (suc k)) (given (lookup (pathOf m (suc k)) (setOf m kind (pathOf m top)))) .0 g in
@@ -168,10 +168,10 @@ module _ (m : Map) (c : Catalogue m) (top : ℕ) (inside : IsNode m top) where
   pub head-unvalued : lookup (pathOf m top) m ≡ none → head? (beginning (pathOf m top) m) ≡ leastAbove (pathOf m top) (beginning (pathOf m top) m)
   head-unvalued e = ap head? (beginning-absent (pathOf m top) m (c .rising) e) ∙ head-longer m (c .rising) (pathOf m top)
 
-  pub under-top : Under m top top
+  pub under-top : UnderTop m top top
   under-top = record { top-inside = inside; inside = inside; begins = prefix-refl (pathOf m top) }
 
-  pub nextIn-later : (kind : Kind) (last : ℕ) → Under m top last → ¬ (last ≡ 0)
+  pub nextIn-later : (kind : Kind) (last : ℕ) → UnderTop m top last → ¬ (last ≡ 0)
       → nextIn m (setOf m kind (pathOf m top)) last ≡ leastAbove (pathOf m last) (beginning (pathOf m top) m)
   nextIn-later kind zero u n = absurd (n refl)
   nextIn-later kinds.Predictive (suc k) u n = refl
@@ -239,7 +239,7 @@ module _ (i : Image) (h : MapImage i) where
 -- ---- what the calls say
 
 module _ (i : Image) where
-  pub startSays-refused : (kind : Kind) (q : Key) → imageTest i ≡ false → startSays kind i q ≡ refusalNumber NotAnImage ∷ []
+  pub startSays-refused : (kind : Kind) (q : Key) → imageTest i ≡ false → startSays kind i q ≡ refuses NotAnImage
   unfolding startSays
   startSays-refused kind q e = rw e
 
@@ -248,7 +248,7 @@ module _ (i : Image) where
   unfolding startSays
   startSays-accepted kind q e = rw e
 
-  pub stepSays-refused : (c : Cursor) → imageTest i ≡ false → stepSays i c ≡ refusalNumber NotAnImage ∷ []
+  pub stepSays-refused : (c : Cursor) → imageTest i ≡ false → stepSays i c ≡ refuses NotAnImage
   unfolding stepSays
   stepSays-refused c e = rw e
 
@@ -257,7 +257,7 @@ module _ (i : Image) where
   stepSays-finished kind e = rw e
 
   pub stepSays-bad : (kind : Kind) (top last : ℕ) → imageTest i ≡ true → belongs (imageMap i) (Open kind top last) ≡ false
-      → stepSays i (Open kind top last) ≡ refusalNumber BadPlace ∷ []
+      → stepSays i (Open kind top last) ≡ refuses BadPlace
   unfolding stepSays
   stepSays-bad kind top last e f = rw (e, f)
 

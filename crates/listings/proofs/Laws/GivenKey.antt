@@ -14,12 +14,12 @@ use lib.ListN.{length, drop, length-drop}
 use lib.Seq.{drop-at}
 use Rattle.keymap.specs.Members.{In}
 use Rattle.keymap.specs.Key.{Key, PrefixOf}
-use Rattle.keymap.specs.Refusals.{refusalNumber, NotAnImage, BadPlace, KeyRoom}
+use Rattle.keymap.specs.Refusals.{refuses, NotAnImage, BadPlace, KeyRoom}
 use Rattle.keymap.specs.Map.{Entry, Map}
 use Rattle.keymap.specs.Image.{Image}
 use Rattle.keymap.specs.Paths.{IsNode, pathOf, nodeOf}
 use Rattle.keymap.specs.Decode.{imageMap}
-use Rattle.keymap.proofs.Laws.Answers.{Written, written-fits, written-short}
+use Rattle.keymap.proofs.Laws.Answers.{KeyWritten, written-fits, written-short}
 use Rattle.keymap.proofs.Laws.Begins.{prefix-iff, prefix-length}
 use Rattle.keymap.proofs.Laws.Paths.{pathOf-nodeOf, nodeOf-node}
 use Rattle.image.specs.AcceptTest.{imageTest}
@@ -28,7 +28,7 @@ use Rattle.listings.specs.declared.answers.Kind.the-variants as kinds
 use Rattle.listings.specs.declared.answers.Cursor.{Cursor}
 use Rattle.listings.specs.declared.answers.Cursor.the-variants.{Open, Finished}
 use Rattle.climbs.specs.Spelling.{spelledTo}
-use Rattle.climbs.specs.Order.{Under}
+use Rattle.climbs.specs.Order.{UnderTop}
 use Rattle.listings.specs.Cursors.{belongs}
 use Rattle.listings.specs.GivenKey.{givenKey, keySays, keyOut}
 use Rattle.climbs.proofs.Laws.Spelling.{spelled-all, lastBytes-behind}
@@ -36,7 +36,7 @@ use Rattle.listings.proofs.Laws.Cursors.{entry-path}
 
 -- ---- the key of a node
 
-module _ (m : Map) (top node : ℕ) (under : Under m top node) where
+module _ (m : Map) (top node : ℕ) (under : UnderTop m top node) where
   pub givenKey-behind : length (givenKey m kinds.Postfix top node) + length (pathOf m top) ≡ length (pathOf m node)
   givenKey-behind = omega (arith, length-drop (length (pathOf m top)) (pathOf m node), prefix-length (pathOf m top) (pathOf m node) (under .begins))
 
@@ -79,30 +79,30 @@ pub key-apart : (i : Image) (c d : Cursor) (out says after : List ℕ) → c ≡
 key-apart i c d out says after e is = rw e is
 
 module _ (i : Image) (out : List ℕ) where
-  pub key-refused : (c : Cursor) → imageTest i ≡ false → KeyIs i c out (refusalNumber NotAnImage ∷ []) out
+  pub key-refused : (c : Cursor) → imageTest i ≡ false → KeyIs i c out (refuses NotAnImage) out
   unfolding keySays keyOut
   key-refused c e = record { says-is = rw e; after-is = rw e }
 
   module _ (tested : imageTest i ≡ true) where
-    pub key-finished : (kind : Kind) → KeyIs i (Finished kind) out (refusalNumber BadPlace ∷ []) out
+    pub key-finished : (kind : Kind) → KeyIs i (Finished kind) out (refuses BadPlace) out
     unfolding keySays keyOut belongs
     key-finished kind = record { says-is = rw tested; after-is = rw tested }
 
     module _ (kind : Kind) (top last : ℕ) where
-      pub key-strange : belongs (imageMap i) (Open kind top last) ≡ false → KeyIs i (Open kind top last) out (refusalNumber BadPlace ∷ []) out
+      pub key-strange : belongs (imageMap i) (Open kind top last) ≡ false → KeyIs i (Open kind top last) out (refuses BadPlace) out
       unfolding keySays keyOut
       key-strange e = record { says-is = rw (tested, e); after-is = rw (tested, e) }
 
-      pub key-fresh : last ≡ 0 → KeyIs i (Open kind top last) out (refusalNumber BadPlace ∷ []) out
+      pub key-fresh : last ≡ 0 → KeyIs i (Open kind top last) out (refuses BadPlace) out
       unfolding keySays keyOut
       key-fresh z = go (belongs (imageMap i) (Open kind top last)) refl
         where
-          go : (t : Bool) → belongs (imageMap i) (Open kind top last) ≡ t → KeyIs i (Open kind top last) out (refusalNumber BadPlace ∷ []) out
+          go : (t : Bool) → belongs (imageMap i) (Open kind top last) ≡ t → KeyIs i (Open kind top last) out (refuses BadPlace) out
           go false e = key-strange e
           go true e = record { says-is = rw (tested, e, z); after-is = rw (tested, e, z) }
 
       module _ (belonging : belongs (imageMap i) (Open kind top last) ≡ true) (later : ¬ (last ≡ 0)) where
-        key-kept : (says after : List ℕ) → Written (givenKey (imageMap i) kind top last) out says after → KeyIs i (Open kind top last) out says after
+        key-kept : (says after : List ℕ) → KeyWritten (givenKey (imageMap i) kind top last) out says after → KeyIs i (Open kind top last) out says after
         unfolding keySays keyOut
         key-kept says after w = go last refl
           where
@@ -110,7 +110,7 @@ module _ (i : Image) (out : List ℕ) where
             go zero e = absurd (later e)
             go (suc k) e = record { says-is = rw (tested, belonging, e) (rw e at (w .says-is)); after-is = rw (tested, belonging, e) (rw e at (w .after-is)) }
 
-        pub key-short : length out < length (givenKey (imageMap i) kind top last) → KeyIs i (Open kind top last) out (refusalNumber KeyRoom ∷ []) out
+        pub key-short : length out < length (givenKey (imageMap i) kind top last) → KeyIs i (Open kind top last) out (refuses KeyRoom) out
         key-short l = key-kept _ _ (written-short (givenKey (imageMap i) kind top last) out l)
 
         pub key-written : length (givenKey (imageMap i) kind top last) ≤ length out

@@ -38,7 +38,7 @@ use Rattle.walks.proofs.Laws.MapImage.{length-nodes, isNode-is}
 use Rattle.walks.proofs.Laws.MapWalk.{PathTold, there, absent, path-told, walk-rule, node-value}
 use Rattle.walks.proofs.Laws.MapMoves.{kids-some}
 use Rattle.climbs.specs.Below.{belowBy}
-use Rattle.climbs.specs.Order.{nextBy, givenOf, givenBy, Under}
+use Rattle.climbs.specs.Order.{nextBy, givenOf, givenBy, UnderTop}
 use Rattle.climbs.proofs.Laws.MapClimb.{depth-path}
 use Rattle.climbs.proofs.Laws.Below.{below-path}
 use Rattle.climbs.proofs.Laws.MapOrder.{next-path}
@@ -237,7 +237,7 @@ module _ (i : Image) (h : MapImage i) where
       go kinds.Postfix n = next-path i h top top (under-top m (h .catalogue) top n) ∙ sym (ap (givenBy m) (head-longer m (h .catalogue .rising) (pathOf m top)))
   given-path kind top (suc k) e =
       let m : Map = imageMap i in
-      let below : Under m top (suc k) = belongs-under m kind top (suc k) (h .catalogue .rising) e (λ z. omega arith) in
+      let below : UnderTop m top (suc k) = belongs-under m kind top (suc k) (h .catalogue .rising) e (λ z. omega arith) in
       next-path i h top (suc k) below
       ∙ sym (ap (givenBy m) (nextIn-later m (h .catalogue) top (below .top-inside) kind (suc k) below (λ z. omega arith)))
 
@@ -263,7 +263,7 @@ module _ (i : Image) (h : MapImage i) where
           ∙ ap (λ (t : Bool). cond t (Open kind (nodeOf m q) 0) (Finished kind))
           (hasKeys-path kind (nodeOf m q) inside ∙ ap (λ (p : Key). nonempty (setOf m kind p)) (pathOf-nodeOf m q n))
 
-  pub givenLen-path : (kind : Kind) (top node : ℕ) → Under (imageMap i) top node
+  pub givenLen-path : (kind : Kind) (top node : ℕ) → UnderTop (imageMap i) top node
       → givenLenBy (bit (i .words)) (bitsFor (entries i)) kind top node ≡ length (givenKey (imageMap i) kind top node)
   givenLen-path kinds.Predictive top node u = depth-path i h node (u .inside)
   givenLen-path kinds.Postfix top node u =

@@ -5,7 +5,7 @@ use Prim.Native.Nat.{ℕ, _<_, _^_}
 use mathlib.Core.List.{[], _∷_, List}
 use denote.Struct.Laws as LL
 use denote.Enum.Laws as EL
-use Rattle.image.specs.Meaning.{lent}
+use Rattle.image.specs.Meaning.{imageIn}
 use Rattle.places.specs.Incremental.{placeAt, QueryPromise}
 use Rattle.places.specs.declared.answers.Place.{Place}
 use Rattle.places.specs.declared.answers.QueryMove.{QueryMove}
@@ -52,7 +52,7 @@ module _ {M : Type 1} (𝓤 : URA M) (H : Heap 𝓤) (A : Atoms 𝓤) (W : Given
 
   -- what the callee says of its answer and of the place where it leaves it
   abbrev Said : Queried → Place → Type 0
-  Said r z = QueryPromise (lent (labels .now) (values .now) (words .now)) label (placeAt node) r z
+  Said r z = QueryPromise (imageIn labels values words) label (placeAt node) r z
 
   abbrev Post : Val → SProp 𝓤
   Post = walkOf 𝓤 H A caller.ended stayed (caller.clauses 𝓤 H A at-mem run) .post (((κ0, (κ1, (κ2, tt))), (q0, (q1, (q2, tt))), tt, x, vals), tt)

@@ -5,7 +5,7 @@ use Prim.Native.Nat.{ℕ, _<_, _^_}
 use mathlib.Core.List.{[], _∷_, List}
 use denote.Struct.Laws as LL
 use denote.Enum.Laws as EL
-use Rattle.image.specs.Meaning.{lent}
+use Rattle.image.specs.Meaning.{imageIn}
 use Rattle.places.specs.Incremental.{placeAt, FollowPromise}
 use Rattle.places.specs.declared.answers.Place.{Place}
 use Rattle.places.specs.declared.answers.FollowMove.{FollowMove}
@@ -55,7 +55,7 @@ module _ {M : Type 1} (𝓤 : URA M) (H : Heap 𝓤) (A : Atoms 𝓤) (W : Given
 
   -- what the callee says of its answer and of the place where it leaves it
   abbrev Said : Followed → Place → Type 0
-  Said r z = FollowPromise (lent (labels .now) (values .now) (words .now)) (text .now) (placeAt node) r z
+  Said r z = FollowPromise (imageIn labels values words) (text .now) (placeAt node) r z
 
   abbrev Post : Val → SProp 𝓤
   Post = walkOf 𝓤 H A caller.ended stayed (caller.clauses 𝓤 H A at-mem run) .post (((κ0, (κ1, (κ2, (κ4, tt)))), (q0, (q1, (q2, (q4, tt)))), tt, x, vals), tt)

@@ -20,7 +20,7 @@ use mathlib.Core.Option.{Option, none, some}
 use lib.ListN.{length, take}
 use Rattle.keymap.specs.Members.{In, here}
 use Rattle.keymap.specs.Key.{Key, PrefixOf, extends}
-use Rattle.keymap.specs.Refusals.{refusalNumber, NotAnImage, BadPlace}
+use Rattle.keymap.specs.Refusals.{refuses, NotAnImage, BadPlace}
 use Rattle.keymap.specs.Map.{Map, Rising, lookup}
 use Rattle.keymap.specs.Queries.{nonempty, SomeBegins, beginning, longer, isPrefixIn, LongestCommon, commonOfAll}
 use Rattle.keymap.specs.Image.{Image, childrenIn}
@@ -174,10 +174,10 @@ lookup-longer-behind m r p q b l = lookup-longer p m r q ∙ rw (extends-iff p q
 -- ---- promises
 
 module _ (i : Image) (k : ℕ) (says : List ℕ) (to : ℕ) where
-  pub promise-refused : imageTest i ≡ false → Promise (refusalNumber NotAnImage ∷ []) (onPlace i k says) (placeAt k) (fromPlace i k to)
+  pub promise-refused : imageTest i ≡ false → Promise (refuses NotAnImage) (onPlace i k says) (placeAt k) (fromPlace i k to)
   promise-refused e = record { answers = rw e; stands = rw e }
 
-  pub promise-strange : imageTest i ≡ true → isNode (imageMap i) k ≡ false → Promise (refusalNumber BadPlace ∷ []) (onPlace i k says) (placeAt k) (fromPlace i k to)
+  pub promise-strange : imageTest i ≡ true → isNode (imageMap i) k ≡ false → Promise (refuses BadPlace) (onPlace i k says) (placeAt k) (fromPlace i k to)
   promise-strange e f = record { answers = rw (e, f); stands = rw (e, f) }
 
   pub promise-kept : imageTest i ≡ true → isNode (imageMap i) k ≡ true → (said : List ℕ) (node : ℕ) → said ≡ says → node ≡ to

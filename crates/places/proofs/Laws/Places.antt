@@ -12,7 +12,7 @@ use mathlib.Core.Bool.{true, false}
 use mathlib.Core.List.{List, [], _∷_, _++_}
 use lib.ListN.{length, drop}
 use Rattle.keymap.specs.Key.{Key}
-use Rattle.keymap.specs.Refusals.{refusalNumber, NotAnImage, BadPlace, KeyRoom}
+use Rattle.keymap.specs.Refusals.{refuses, NotAnImage, BadPlace, KeyRoom}
 use Rattle.keymap.specs.Map.{lookup}
 use Rattle.keymap.specs.Image.{Image}
 use Rattle.keymap.specs.Paths.{isNode, pathOf}
@@ -29,10 +29,10 @@ use Rattle.walks.proofs.Laws.MapImage.{length-nodes}
 
 module _ (i : Image) (k : ℕ) where
   module _ (says : List ℕ) where
-    pub onPlace-refused : imageTest i ≡ false → onPlace i k says ≡ refusalNumber NotAnImage ∷ []
+    pub onPlace-refused : imageTest i ≡ false → onPlace i k says ≡ refuses NotAnImage
     onPlace-refused e = rw e
 
-    pub onPlace-strange : imageTest i ≡ true → isNode (imageMap i) k ≡ false → onPlace i k says ≡ refusalNumber BadPlace ∷ []
+    pub onPlace-strange : imageTest i ≡ true → isNode (imageMap i) k ≡ false → onPlace i k says ≡ refuses BadPlace
     onPlace-strange e f = rw (e, f)
 
     pub onPlace-kept : imageTest i ≡ true → isNode (imageMap i) k ≡ true → onPlace i k says ≡ says
@@ -55,17 +55,17 @@ pub record PrefixIs (i : Image) (k : ℕ) (out : List ℕ) (says : List ℕ) (af
   pub after-is : prefixOut i k out ≡ after
 
 module _ (i : Image) (k : ℕ) (out : List ℕ) where
-  pub prefix-refused : imageTest i ≡ false → PrefixIs i k out (refusalNumber NotAnImage ∷ []) out
+  pub prefix-refused : imageTest i ≡ false → PrefixIs i k out (refuses NotAnImage) out
   unfolding prefixSays prefixOut
   prefix-refused e = record { says-is = rw e; after-is = rw e }
 
   module _ (tested : imageTest i ≡ true) where
-    pub prefix-strange : isNode (imageMap i) k ≡ false → PrefixIs i k out (refusalNumber BadPlace ∷ []) out
+    pub prefix-strange : isNode (imageMap i) k ≡ false → PrefixIs i k out (refuses BadPlace) out
     unfolding prefixSays prefixOut
     prefix-strange e = record { says-is = rw (tested, e); after-is = rw (tested, e) }
 
     module _ (node : isNode (imageMap i) k ≡ true) where
-      pub prefix-short : length out < length (pathOf (imageMap i) k) → PrefixIs i k out (refusalNumber KeyRoom ∷ []) out
+      pub prefix-short : length out < length (pathOf (imageMap i) k) → PrefixIs i k out (refuses KeyRoom) out
       unfolding prefixSays prefixOut
       prefix-short l =
           let w = written-short (pathOf (imageMap i) k) out l in

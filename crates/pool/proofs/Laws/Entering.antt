@@ -22,7 +22,7 @@ use Rattle.keymap.specs.Limits.{byteLimit}
 use Rattle.keymap.specs.Label.{mark, labelIn}
 use Rattle.keymap.specs.Key.{Key}
 use Rattle.records.specs.Words.{Pool, recordWords, word, entry, label, value, firstChild, nextSibling, parent, lastRecord, usedCount, InUse, Node, nextRecord, taken, capacity}
-use Rattle.records.specs.Sound.{In, Fits, Children, Sound}
+use Rattle.records.specs.Sound.{Among, Fits, Children, Sound}
 use Rattle.records.specs.Spelling.{Stops}
 use Rattle.records.proofs.Laws.Distinct.{equal-or-not}
 use Rattle.records.proofs.Laws.Words.{word-put-same, node-within, parent-node, next-last, next-unused, next-fits, length-taken, word-taken, last-taken, in-use-taken, in-use-stays, next-in-use, count-taken}
@@ -112,8 +112,8 @@ node-inside p e c s h = let r = s .within in let l = s .rooted in omega (arith, 
 module _ (p q : Pool) (i b m a x : ℕ) (s : SoundBut p i) (node : Node p i) (byte : b < byteLimit) (A : Entered p q i b m a x)
     (positive : 0 < m) (unused : Node p m → ⊥) (low : i < m) (within : lastRecord q ≤ capacity q)
     (known-or-entered : (c : ℕ) → InUse q c → InUse p c ⊎ (c ≡ m)) (stays : (c : ℕ) → InUse p c → InUse q c) (used : InUse q m) (more : lastRecord p ≤ lastRecord q)
-    (after : (a ≡ 0) ⊎ In a (s .children i node .kids)) (upto : Node p x) (seeks : slot a x ≡ slotFrom p (lastRecord p) 0 (firstChild p i) b)
-    (absent : (k : ℕ) → In k (s .children i node .kids) → label p k ≡ b → ⊥) where
+    (after : (a ≡ 0) ⊎ Among a (s .children i node .kids)) (upto : Node p x) (seeks : slot a x ≡ slotFrom p (lastRecord p) 0 (firstChild p i) b)
+    (absent : (k : ℕ) → Among k (s .children i node .kids) → label p k ≡ b → ⊥) where
   abbrev K : Children p i
   K = s .children i node
 

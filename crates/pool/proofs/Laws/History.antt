@@ -23,7 +23,7 @@ use Rattle.keymap.specs.Limits.{valueLimit}
 use Rattle.keymap.specs.Key.{Key, Bytes}
 use Rattle.keymap.specs.Map.{Entry, Map, Rising, Proper, Catalogue, insert, insertAll}
 use Rattle.keymap.specs.Prefixes.{deepest, levels, prefixes}
-use Rattle.keymap.specs.Refusals.{Refusal, refusalNumber}
+use Rattle.keymap.specs.Refusals.{Refusal, refuses}
 use Rattle.keymap.proofs.Laws.Map.{insert-rising, insert-catalogue, insertAll-self}
 use Rattle.keymap.proofs.Laws.Prefixes.{prefixes-insert}
 use Rattle.records.specs.Words.{Pool, recordWords, usedCount, Bounded, capacity}
@@ -35,59 +35,59 @@ use Rattle.records.proofs.Laws.Meaning.{map-catalogue, count-prefixes}
 use Rattle.pool.specs.Answers.{accepted}
 use Rattle.pool.specs.Reset.{resetPool}
 use Rattle.pool.specs.Push.{hasRoom, testedSays, pushSays, pushPool}
-use Rattle.pool.specs.History.{Call, Lent, AllLent, callSays, callPool, runSays, runPool, mapSays, mapAfter, mapRunSays, mapRun, pushesOf}
+use Rattle.pool.specs.History.{PoolCall, LentCall, AllLent, callSays, callPool, runSays, runPool, mapSays, callMap, mapRunSays, mapRun, pushesOf}
 use Rattle.pool.proofs.Laws.Reset.{reset-done, reset-sound, length-reset}
 use Rattle.pool.proofs.Laws.UseCount.{use-count-sound}
 use Rattle.pool.proofs.Laws.Push.{push-tested, push-keeps, length-push}
 use Rattle.pool.proofs.Laws.Meaning.{reset-means-empty, push-means-insert, push-means-same, room-means-prefixes}
 
 module _ (p : Pool) (s : Sound p) where
-  push-says : (k : Key) (v : ℕ) → pushSays p k ≡ mapSays (capacity p) (poolMap p) (Call.push k v)
+  push-says : (k : Key) (v : ℕ) → pushSays p k ≡ mapSays (capacity p) (poolMap p) (PoolCall.push k v)
   unfolding testedSays
   push-says k v = sym (push-tested p k (s .rooted) (sound-test p s)) ∙ go (eqb (length k) 0) refl
     where
       go : (t : Bool) → eqb (length k) 0 ≡ t
-          → cond t (refusalNumber Refusal.EmptyKey ∷ []) (cond (hasRoom p k) (0 ∷ []) (refusalNumber Refusal.NoRoom ∷ []))
-          ≡ cond t (refusalNumber Refusal.EmptyKey ∷ []) (cond (leb (length (prefixes (insert k v (poolMap p)))) (capacity p)) (0 ∷ []) (refusalNumber Refusal.NoRoom ∷ []))
+          → cond t (refuses Refusal.EmptyKey) (cond (hasRoom p k) (0 ∷ []) (refuses Refusal.NoRoom))
+          ≡ cond t (refuses Refusal.EmptyKey) (cond (leb (length (prefixes (insert k v (poolMap p)))) (capacity p)) (0 ∷ []) (refuses Refusal.NoRoom))
       go true e = refl
-      go false e = ap (λ (b : Bool). cond b (0 ∷ []) (refusalNumber Refusal.NoRoom ∷ [])) (room-means-prefixes p k s (eqb-false (length k) 0 e) v)
+      go false e = ap (λ (b : Bool). cond b (0 ∷ []) (refuses Refusal.NoRoom)) (room-means-prefixes p k s (eqb-false (length k) 0 e) v)
 
-  pub call-says : (c : Call) → callSays p c ≡ mapSays (capacity p) (poolMap p) c
-  call-says Call.reset = sym (reset-done p (s .rooted) .0)
-  call-says (Call.push k v) = push-says k v
-  call-says Call.useCount = sym (use-count-sound p (s .rooted) (sound-test p s)) ∙ ap (λ (n : ℕ). 0 ∷ n ∷ []) (sym (count-prefixes p s))
+  pub call-says : (c : PoolCall) → callSays p c ≡ mapSays (capacity p) (poolMap p) c
+  call-says PoolCall.reset = sym (reset-done p (s .rooted) .0)
+  call-says (PoolCall.push k v) = push-says k v
+  call-says PoolCall.useCount = sym (use-count-sound p (s .rooted) (sound-test p s)) ∙ ap (λ (n : ℕ). 0 ∷ n ∷ []) (sym (count-prefixes p s))
 
-  push-map : (k : Key) (v : ℕ) → Bytes k → poolMap (pushPool p k v) ≡ mapAfter (capacity p) (poolMap p) (Call.push k v)
+  push-map : (k : Key) (v : ℕ) → Bytes k → poolMap (pushPool p k v) ≡ callMap (capacity p) (poolMap p) (PoolCall.push k v)
   push-map k v b = go (accepted (pushSays p k)) refl ∙ ap (λ (a : List ℕ). cond (accepted a) (insert k v (poolMap p)) (poolMap p)) (push-says k v)
     where
       go : (t : Bool) → accepted (pushSays p k) ≡ t → poolMap (pushPool p k v) ≡ cond (accepted (pushSays p k)) (insert k v (poolMap p)) (poolMap p)
       go true e = push-means-insert p k v b e ∙ rw e refl
       go false e = push-means-same p k v e ∙ rw e refl
 
-  pub call-map : (c : Call) → Lent c → poolMap (callPool p c) ≡ mapAfter (capacity p) (poolMap p) c
-  call-map Call.reset l = reset-means-empty p (s .rooted)
-  call-map (Call.push k v) l = push-map k v (l .0)
-  call-map Call.useCount l = refl
+  pub call-map : (c : PoolCall) → LentCall c → poolMap (callPool p c) ≡ callMap (capacity p) (poolMap p) c
+  call-map PoolCall.reset l = reset-means-empty p (s .rooted)
+  call-map (PoolCall.push k v) l = push-map k v (l .0)
+  call-map PoolCall.useCount l = refl
 
-  pub call-sound : (c : Call) → Lent c → Sound (callPool p c)
-  call-sound Call.reset l = reset-sound p (s .rooted)
-  call-sound (Call.push k v) l = push-keeps p k v (l .0) s
-  call-sound Call.useCount l = s
+  pub call-sound : (c : PoolCall) → LentCall c → Sound (callPool p c)
+  call-sound PoolCall.reset l = reset-sound p (s .rooted)
+  call-sound (PoolCall.push k v) l = push-keeps p k v (l .0) s
+  call-sound PoolCall.useCount l = s
 
-  pub call-length : (c : Call) → Lent c → length (callPool p c) ≡ length p
-  call-length Call.reset l = length-reset p
-  call-length (Call.push k v) l = length-push p k v (l .0)
-  call-length Call.useCount l = refl
+  pub call-length : (c : PoolCall) → LentCall c → length (callPool p c) ≡ length p
+  call-length PoolCall.reset l = length-reset p
+  call-length (PoolCall.push k v) l = length-push p k v (l .0)
+  call-length PoolCall.useCount l = refl
 
-  pub call-capacity : (c : Call) → Lent c → capacity (callPool p c) ≡ capacity p
+  pub call-capacity : (c : PoolCall) → LentCall c → capacity (callPool p c) ≡ capacity p
   call-capacity c l = rw (call-length c l)
 
-pub run-sound : (cs : List Call) (p : Pool) → Sound p → AllLent cs → Sound (runPool p cs)
+pub run-sound : (cs : List PoolCall) (p : Pool) → Sound p → AllLent cs → Sound (runPool p cs)
 unfolding runPool
 run-sound [] p s l = s
 run-sound (c ∷ cs) p s l = run-sound cs (callPool p c) (call-sound p s c (l .0)) (l .1)
 
-pub run-says : (cs : List Call) (p : Pool) → Sound p → AllLent cs → runSays p cs ≡ mapRunSays (capacity p) (poolMap p) cs
+pub run-says : (cs : List PoolCall) (p : Pool) → Sound p → AllLent cs → runSays p cs ≡ mapRunSays (capacity p) (poolMap p) cs
 unfolding runSays mapRunSays
 run-says [] p s l = refl
 run-says (c ∷ cs) p s l =
@@ -97,7 +97,7 @@ run-says (c ∷ cs) p s l =
     let n = call-capacity p s c (l .0) in
     λ i. first i ∷ (rest ∙ (λ j. mapRunSays (n j) (m j) cs)) i
 
-pub run-map : (cs : List Call) (p : Pool) → Sound p → AllLent cs → poolMap (runPool p cs) ≡ mapRun (capacity p) (poolMap p) cs
+pub run-map : (cs : List PoolCall) (p : Pool) → Sound p → AllLent cs → poolMap (runPool p cs) ≡ mapRun (capacity p) (poolMap p) cs
 unfolding runPool mapRun
 run-map [] p s l = refl
 run-map (c ∷ cs) p s l =
@@ -120,27 +120,27 @@ nonempty-key k e s = eqb-false (length k) 0 e (ap length s)
 -- a call leaves a catalogue, with no more distinct prefixes than there is room for
 module _ (most : ℕ) (m : Map) (c : Catalogue m) (few : length (prefixes m) ≤ most) where
   push-within : (k : Key) (v : ℕ) → Bytes k × (v < valueLimit)
-      → Catalogue (mapAfter most m (Call.push k v)) × (length (prefixes (mapAfter most m (Call.push k v))) ≤ most)
+      → Catalogue (callMap most m (PoolCall.push k v)) × (length (prefixes (callMap most m (PoolCall.push k v))) ≤ most)
   push-within k v l = go (eqb (length k) 0) refl (leb (length (prefixes (insert k v m))) most) refl
     where
       go : (t : Bool) → eqb (length k) 0 ≡ t → (u : Bool) → leb (length (prefixes (insert k v m))) most ≡ u
-          → Catalogue (mapAfter most m (Call.push k v)) × (length (prefixes (mapAfter most m (Call.push k v))) ≤ most)
+          → Catalogue (callMap most m (PoolCall.push k v)) × (length (prefixes (callMap most m (PoolCall.push k v))) ≤ most)
       go true e u f = rw e (c, few)
       go false e true f = rw (e, f) (insert-catalogue k v m (nonempty-key k e) (l .0) (l .1) c, leb-true _ _ f)
       go false e false f = rw (e, f) (c, few)
 
-  pub call-within : (d : Call) → Lent d → Catalogue (mapAfter most m d) × (length (prefixes (mapAfter most m d)) ≤ most)
-  call-within Call.reset l = (empty-catalogue, omega (arith, empty-prefixes))
-  call-within (Call.push k v) l = push-within k v l
-  call-within Call.useCount l = (c, few)
+  pub call-within : (d : PoolCall) → LentCall d → Catalogue (callMap most m d) × (length (prefixes (callMap most m d)) ≤ most)
+  call-within PoolCall.reset l = (empty-catalogue, omega (arith, empty-prefixes))
+  call-within (PoolCall.push k v) l = push-within k v l
+  call-within PoolCall.useCount l = (c, few)
 
-pub run-within : (most : ℕ) (cs : List Call) (m : Map) → Catalogue m → length (prefixes m) ≤ most → AllLent cs
+pub run-within : (most : ℕ) (cs : List PoolCall) (m : Map) → Catalogue m → length (prefixes m) ≤ most → AllLent cs
     → Catalogue (mapRun most m cs) × (length (prefixes (mapRun most m cs)) ≤ most)
 unfolding mapRun
 run-within most [] m c few l = (c, few)
-run-within most (d ∷ cs) m c few l = let (c-after, few-after) = call-within most m c few d (l .0) in run-within most cs (mapAfter most m d) c-after few-after (l .1)
+run-within most (d ∷ cs) m c few l = let (c-after, few-after) = call-within most m c few d (l .0) in run-within most cs (callMap most m d) c-after few-after (l .1)
 
-module _ (p : Pool) (h : recordWords ≤ length p) (cs : List Call) (lent : AllLent cs) where
+module _ (p : Pool) (h : recordWords ≤ length p) (cs : List PoolCall) (lent : AllLent cs) where
   pub reset-run-sound : Sound (runPool (resetPool p) cs)
   reset-run-sound = run-sound cs (resetPool p) (reset-sound p h) lent
 
@@ -177,10 +177,10 @@ module _ (most : ℕ) (m : Map) (k : Key) (v : ℕ) (nonempty : ¬ (k ≡ [])) (
   not-empty [] n = absurd (n refl)
   not-empty (b ∷ bs) n = ne-eqb (length (b ∷ bs)) 0 (λ e. omega arith)
 
-  pub fits-says : mapSays most m (Call.push k v) ≡ 0 ∷ []
+  pub fits-says : mapSays most m (PoolCall.push k v) ≡ 0 ∷ []
   fits-says = rw (not-empty k nonempty, le-leb _ _ few)
 
-  fits-after : mapAfter most m (Call.push k v) ≡ insert k v m
+  fits-after : callMap most m (PoolCall.push k v) ≡ insert k v m
   fits-after = rw fits-says
 
 -- where all the entries fit together each is accepted, and all are inserted

@@ -25,11 +25,11 @@ use Rattle.keymap.specs.Key.{Key, Bytes}
 use Rattle.keymap.specs.Map.{Entry, insert, lookup}
 use Rattle.keymap.specs.Members as members
 use Rattle.keymap.specs.Prefixes.{prefixes, missing}
-use Rattle.keymap.specs.Refusals.{Refusal, refusalNumber}
+use Rattle.keymap.specs.Refusals.{Refusal, refuses}
 use Rattle.keymap.proofs.Laws.Map.{insert-rising, insert-iff, map-members}
 use Rattle.keymap.proofs.Laws.Members.{members-none}
 use Rattle.keymap.proofs.Laws.Prefixes.{prefixes-insert, missing-present}
-use Rattle.records.specs.Words.{Pool, recordWords, word, entry, label, value, valueOf, parent, lastRecord, usedCount, InUse, Node, nextRecord, capacity}
+use Rattle.records.specs.Words.{Pool, recordWords, word, entry, label, value, recordValue, parent, lastRecord, usedCount, InUse, Node, nextRecord, capacity}
 use Rattle.records.specs.Sound.{Sound}
 use Rattle.records.specs.Spelling.{ChildBy, Spells}
 use Rattle.records.specs.Meaning.{poolMap, Holds}
@@ -109,7 +109,7 @@ module _ (p : Pool) (i b : ℕ) (can : CanEnter p i b) where
       (λ (e : h .0 ≡ m). absurd (next-unused p (subst (Node p) (spells-entered bs c (subst (λ (k : ℕ). Spells q k bs c) e (h .2))) (inr u))))
       (in-use-taken p q (A .last) (h .0) (h .1 .0))
 
-  value-of-kept : (c : ℕ) → InUse p c → valueOf q c ≡ valueOf p c
+  value-of-kept : (c : ℕ) → InUse p c → recordValue q c ≡ recordValue p c
   value-of-kept c u = rw (entry-kept c u, value-kept c u)
 
   enter-holds : (k : Key) (v : ℕ) → Holds q k v ↔ Holds p k v
@@ -117,8 +117,8 @@ module _ (p : Pool) (i b : ℕ) (can : CanEnter p i b) where
     λ h.
         ⊎-elim (λ u. record { at = h .at; used = u; spelled = spells-back 0 k (h .at) (h .spelled) u; valued = sym (value-of-kept (h .at) u) ∙ h .valued })
         (λ (e : h .at ≡ m).
-        let w : valueOf q m ≡ some v = subst (λ (c : ℕ). valueOf q c ≡ some v) e (h .valued) in
-        let n : valueOf q m ≡ none = rw (A .own-entry) (simp (lt-leb _ _ (can .byte))) in
+        let w : recordValue q m ≡ some v = subst (λ (c : ℕ). recordValue q c ≡ some v) e (h .valued) in
+        let n : recordValue q m ≡ none = rw (A .own-entry) (simp (lt-leb _ _ (can .byte))) in
         let z : _≡_ {A = ℕ} 0 1 = cc in absurd (omega arith))
         (in-use-taken p q (A .last) (h .at) (h .used)),
     λ h. record { at = h .at; used = in-use-stays p q (A .last) (h .at) (h .used); spelled = spells-stays 0 k (h .at) (h .spelled); valued = value-of-kept (h .at) (h .used) ∙ h .valued },
@@ -164,7 +164,7 @@ module _ (p : Pool) (t v : ℕ) (s : SoundBut p t) (u : InUse p t) (key : Key) (
   mark-spells (b ∷ bs) j c =
       (λ h. (h .0, mark-child j b (h .0) .0 (h .1), mark-spells bs (h .0) c .0 (h .2)), λ h. (h .0, mark-child j b (h .0) .1 (h .1), mark-spells bs (h .0) c .1 (h .2)))
 
-  marked-here : valueOf M t ≡ some v
+  marked-here : recordValue M t ≡ some v
   marked-here =
       let e = marked-entry p t v inside in
       let w : value M t ≡ v = marked-value p t v inside in
@@ -173,7 +173,7 @@ module _ (p : Pool) (t v : ℕ) (s : SoundBut p t) (u : InUse p t) (key : Key) (
       above : (l : ℕ) → mark ≤ l + mark
       above l = omega arith
 
-  marked-elsewhere : (c : ℕ) → (c ≡ t → ⊥) → valueOf M c ≡ valueOf p c
+  marked-elsewhere : (c : ℕ) → (c ≡ t → ⊥) → recordValue M c ≡ recordValue p c
   marked-elsewhere c ne = rw (marked-other p t v c 0 (omega arith) (λ e. absurd (ne (sym e))), marked-other p t v c 1 (omega arith) (λ e. absurd (ne (sym e))))
 
   mark-holds : (k : Key) (w : ℕ) → Holds M k w ↔ (((k ≡ key) × (w ≡ v)) ⊎ (Holds p k w × (¬ (k ≡ key))))
@@ -185,7 +185,7 @@ module _ (p : Pool) (t v : ℕ) (s : SoundBut p t) (u : InUse p t) (key : Key) (
           let way = mark-spells k 0 (h .at) .0 (h .spelled) in
           ⊎-elim
           (λ (e : h .at ≡ t).
-          let a : valueOf M t ≡ some w = subst (λ (c : ℕ). valueOf M c ≡ some w) e (h .valued) in
+          let a : recordValue M t ≡ some w = subst (λ (c : ℕ). recordValue M c ≡ some w) e (h .valued) in
           let b = marked-here in
           inl (spells-one-path p k key t (subst (λ (c : ℕ). Spells p 0 k c) e way) spelled, cc))
           (λ (ne : h .at ≡ t → ⊥).
@@ -306,7 +306,7 @@ reset-unspelled p h (b ∷ bs) c s = absurd (none-in-use (resetPool p) (reset-so
 
 -- into a pool that was just reset a key fits exactly if it has no more bytes than capacity
 pub reset-push : (p : Pool) (key : Key) → recordWords ≤ length p → (length key ≡ 0 → ⊥)
-    → pushSays (resetPool p) key ≡ cond (leb (length key) (capacity p)) (0 ∷ []) (refusalNumber Refusal.NoRoom ∷ [])
+    → pushSays (resetPool p) key ≡ cond (leb (length key) (capacity p)) (0 ∷ []) (refuses Refusal.NoRoom)
 reset-push p key h nonempty =
     let s = reset-sound p h in
     let c = reach-split (resetPool p) (s .children) key in

@@ -21,15 +21,15 @@ use Rattle.records.specs.Sound.{Children}
 use Rattle.records.specs.Spelling.{Spells, Stops}
 use Rattle.pool.specs.declared.path.Reach.{Reach}
 use Rattle.pool.specs.Siblings.{childAt}
-use Rattle.pool.specs.Path.{reached, reachFrom, reachOf, missingLabels}
+use Rattle.pool.specs.Path.{reachAt, reachFrom, reachOf, missingLabels}
 use Rattle.pool.proofs.Laws.Siblings.{child-is, child-absent}
 
 module _ (p : Pool) (key : Key) (i d : ℕ) where
-  pub reach-end : length key ≤ d → reachFrom p i d (drop d key) ≡ reached i d
+  pub reach-end : length key ≤ d → reachFrom p i d (drop d key) ≡ reachAt i d
   unfolding reachFrom
   reach-end h = rw (drop-of-length-le key h)
 
-  pub reach-none : d < length key → childAt p i (getD key d 0) ≡ 0 → reachFrom p i d (drop d key) ≡ reached i d
+  pub reach-none : d < length key → childAt p i (getD key d 0) ≡ 0 → reachFrom p i d (drop d key) ≡ reachAt i d
   unfolding reachFrom
   reach-none l h = rw (drop-cons key d 0 l) (simp (eq-eqb _ _ h))
 
@@ -56,7 +56,7 @@ module _ (p : Pool) (K : (c : ℕ) → Node p c → Children p c) where
   split-from (b ∷ bs) i d n = go (eqb (childAt p i b) 0) refl (λ u. split-from bs (childAt p i b) (d + 1) (inr u))
     where
       go : (t : Bool) → eqb (childAt p i b) 0 ≡ t → (InUse p (childAt p i b) → Split p (childAt p i b) (d + 1) bs (reachFrom p (childAt p i b) (d + 1) bs))
-          → Split p i d (b ∷ bs) (cond t (reached i d) (reachFrom p (childAt p i b) (d + 1) bs))
+          → Split p i d (b ∷ bs) (cond t (reachAt i d) (reachFrom p (childAt p i b) (d + 1) bs))
       go true e on = record { there = []; rest = b ∷ bs; whole = refl; depth = omega arith; spells = refl; stops = child-absent p i b (K i n) (eqb-true _ _ e) }
       go false e on =
           let c = child-is p i b (K i n) (omega (arith, eqb-false (childAt p i b) 0 e)) in

@@ -17,7 +17,7 @@ use lib.ListN.{length, drop, length-append}
 use lib.Dec.{leb, ltb, eqb}
 use borrow.Author.Tests.{le-ltb, lt-ltb, le-leb, lt-leb, eq-eqb, ne-eqb, leb-true, eqb-false}
 use Rattle.keymap.specs.Key.{Key, Bytes}
-use Rattle.keymap.specs.Refusals.{Refusal, refusalNumber}
+use Rattle.keymap.specs.Refusals.{Refusal, refuses}
 use Rattle.records.specs.Words.{Pool, recordWords, usedCount, InUse, Node, capacity}
 use Rattle.records.specs.Sound.{Sound}
 use Rattle.records.specs.SoundTest.{soundTest}
@@ -35,11 +35,11 @@ use Rattle.pool.proofs.Laws.Writing.{length-marked}
 use Rattle.pool.proofs.Laws.Entering.{sound-but, node-inside, EnteredAll, entered-all, mark-keeps}
 
 module _ (p : Pool) (key : Key) where
-  pub tested-empty : length key ≡ 0 → refusalNumber Refusal.EmptyKey ∷ [] ≡ testedSays p key
+  pub tested-empty : length key ≡ 0 → refuses Refusal.EmptyKey ≡ testedSays p key
   unfolding testedSays
   tested-empty h = simp (eq-eqb _ _ h)
 
-  pub tested-full : (length key ≡ 0 → ⊥) → capacity p < usedCount p + missingLabels p key → refusalNumber Refusal.NoRoom ∷ [] ≡ testedSays p key
+  pub tested-full : (length key ≡ 0 → ⊥) → capacity p < usedCount p + missingLabels p key → refuses Refusal.NoRoom ≡ testedSays p key
   unfolding testedSays hasRoom
   tested-full n h = simp (ne-eqb _ _ n, lt-leb _ _ h)
 
@@ -51,11 +51,11 @@ module _ (p : Pool) (key : Key) where
   unfolding missingLabels
   missing-reach r e = rw e refl
 
-  pub push-small : length p < recordWords → refusalNumber Refusal.PoolTooSmall ∷ [] ≡ pushSays p key
+  pub push-small : length p < recordWords → refuses Refusal.PoolTooSmall ≡ pushSays p key
   unfolding pushSays
   push-small h = simp (lt-ltb _ _ h)
 
-  pub push-unsound : recordWords ≤ length p → soundTest p ≡ false → refusalNumber Refusal.NotAPool ∷ [] ≡ pushSays p key
+  pub push-unsound : recordWords ≤ length p → soundTest p ≡ false → refuses Refusal.NotAPool ≡ pushSays p key
   unfolding pushSays
   push-unsound h e = simp (le-ltb _ _ h, e)
 
@@ -153,19 +153,19 @@ module _ (p : Pool) (key : Key) (v : ℕ) (s : Sound p) where
           record { answer = d; left = rw (← d) f; sound = rw f (insert-keeps p key v s bytes nonempty fits) }
 
 -- ---- what an accepted answer tells
-pub record Accepted (p : Pool) (key : Key) : Type 0 where
+pub record Admitted (p : Pool) (key : Key) : Type 0 where
   pub sound : Sound p
   pub nonempty : length key ≡ 0 → ⊥
   pub room : usedCount p + missingLabels p key ≤ capacity p
 
-pub push-accepted : (p : Pool) (key : Key) → accepted (pushSays p key) ≡ true → Accepted p key
+pub push-accepted : (p : Pool) (key : Key) → accepted (pushSays p key) ≡ true → Admitted p key
 unfolding pushSays testedSays hasRoom
 push-accepted p key e =
     go (ltb (length p) recordWords) (soundTest p) (eqb (length key) 0) (leb (usedCount p + missingLabels p key) (capacity p)) refl refl refl e
   where
     go : (t u w x : Bool) → soundTest p ≡ u → eqb (length key) 0 ≡ w → leb (usedCount p + missingLabels p key) (capacity p) ≡ x
-        → accepted (cond t (refusalNumber Refusal.PoolTooSmall ∷ []) (cond u (cond w (refusalNumber Refusal.EmptyKey ∷ []) (cond x (0 ∷ []) (refusalNumber Refusal.NoRoom ∷ [])))
-        (refusalNumber Refusal.NotAPool ∷ []))) ≡ true → Accepted p key
+        → accepted (cond t (refuses Refusal.PoolTooSmall) (cond u (cond w (refuses Refusal.EmptyKey) (cond x (0 ∷ []) (refuses Refusal.NoRoom)))
+        (refuses Refusal.NotAPool))) ≡ true → Admitted p key
     go true u w x a b c q = let z : _≡_ {A = ℕ} 0 1 = cc in absurd (omega arith)
     go false true true x a b c q = let z : _≡_ {A = ℕ} 0 1 = cc in absurd (omega arith)
     go false true false true a b c q = record { sound = test-sound p a; nonempty = eqb-false (length key) 0 b; room = leb-true _ _ c }

@@ -11,7 +11,7 @@ use mathlib.Core.List.{[], _∷_}
 use native.Mathlib.Omega.{arith}
 use lib.ListN.{length, getD}
 use borrow.Author.Tests.{le-ltb, lt-ltb}
-use Rattle.keymap.specs.Refusals.{Refusal, refusalNumber}
+use Rattle.keymap.specs.Refusals.{Refusal, refuses}
 use Rattle.records.specs.Words.{Pool, recordWords, lastRecord, usedCount}
 use Rattle.records.specs.Sound.{Children, Sound}
 use Rattle.records.proofs.Laws.Words.{word-at, last-entry, count-none, node-within}
@@ -21,7 +21,7 @@ use Rattle.pool.specs.Reset.{resetSays, resetPool}
 use Rattle.pool.proofs.Laws.Writing.{length-filled, filled-other, filled-entry, filled-value, filled-child, filled-sibling, filled-parent}
 
 module _ (p : Pool) where
-  pub reset-small : length p < recordWords → (refusalNumber Refusal.PoolTooSmall ∷ [] ≡ resetSays p) × (p ≡ resetPool p)
+  pub reset-small : length p < recordWords → (refuses Refusal.PoolTooSmall ≡ resetSays p) × (p ≡ resetPool p)
   unfolding resetSays resetPool
   reset-small h = (simp (lt-ltb _ _ h), simp (lt-ltb _ _ h))
 

@@ -21,7 +21,7 @@ use lib.ListN.{length}
 use lib.Dec.{ltb, eqb}
 use borrow.Author.Tests.{le-ltb, lt-ltb, eq-eqb, ne-eqb, eqb-true}
 use Rattle.records.specs.Words.{Pool, label, firstChild, nextSibling, lastRecord, Node}
-use Rattle.records.specs.Sound.{In, Chain, LabelsRise, Children}
+use Rattle.records.specs.Sound.{Among, Chain, LabelsRise, Children}
 use Rattle.records.specs.Spelling.{ChildBy}
 use Rattle.records.proofs.Laws.Distinct.{Once, equal-or-not, below-or-not}
 use Rattle.records.proofs.Laws.Sound.{chain-same, rises-same, rises-above, children-most}
@@ -58,7 +58,7 @@ module _ (p : Pool) where
 chain-head : (f : ℕ → ℕ) (c x : ℕ) (xs : List ℕ) → Chain f c (x ∷ xs) → c ≡ 0 → ⊥
 chain-head f c x xs h z = omega (arith, h .0, h .1)
 
-pub slot-from-prev : (p : Pool) (b f a c : ℕ) (xs : List ℕ) → Chain (nextSibling p) c xs → (slotFrom p f a c b .prev ≡ a) ⊎ In (slotFrom p f a c b .prev) xs
+pub slot-from-prev : (p : Pool) (b f a c : ℕ) (xs : List ℕ) → Chain (nextSibling p) c xs → (slotFrom p f a c b .prev ≡ a) ⊎ Among (slotFrom p f a c b .prev) xs
 slot-from-prev p b f a c [] h = inl (ap (λ (s : Slot). s .prev) (slot-from-end p f a c b h))
 slot-from-prev p b f a c (x ∷ xs) h =
     let nz = chain-head (nextSibling p) c x xs h in
@@ -68,13 +68,13 @@ slot-from-prev p b f a c (x ∷ xs) h =
     (λ (lt : label p c < b).
     let s = ap (λ (s : Slot). s .prev) (slot-from-step p f a c b (omega (arith, nf)) nz lt) in
     ⊎-elim (λ (e : slotFrom p (f - 1) c (nextSibling p c) b .prev ≡ c). inr (inl (s ∙ e ∙ h .0)))
-    (λ (m : In (slotFrom p (f - 1) c (nextSibling p c) b .prev) xs). inr (inr (subst (λ (k : ℕ). In k xs) (sym s) m)))
+    (λ (m : Among (slotFrom p (f - 1) c (nextSibling p c) b .prev) xs). inr (inr (subst (λ (k : ℕ). Among k xs) (sym s) m)))
     (slot-from-prev p b (f - 1) c (nextSibling p c) xs (subst (λ (k : ℕ). Chain (nextSibling p) (nextSibling p k) xs) (sym (h .0)) (h .2))))
     (λ (ge : b ≤ label p c). inl (ap (λ (s : Slot). s .prev) (slot-from-here p f a c b nz ge)))
     (below-or-not (label p c) b))
     (equal-or-not f 0)
 
-slot-from-next : (p : Pool) (b f a c : ℕ) (xs : List ℕ) → Chain (nextSibling p) c xs → length xs ≤ f → (slotFrom p f a c b .next ≡ 0) ⊎ In (slotFrom p f a c b .next) xs
+slot-from-next : (p : Pool) (b f a c : ℕ) (xs : List ℕ) → Chain (nextSibling p) c xs → length xs ≤ f → (slotFrom p f a c b .next ≡ 0) ⊎ Among (slotFrom p f a c b .next) xs
 slot-from-next p b f a c [] h l = inl (ap (λ (s : Slot). s .next) (slot-from-end p f a c b h) ∙ h)
 slot-from-next p b f a c (x ∷ xs) h l =
     let nz = chain-head (nextSibling p) c x xs h in
@@ -82,12 +82,12 @@ slot-from-next p b f a c (x ∷ xs) h l =
     (λ (lt : label p c < b).
     let s = ap (λ (s : Slot). s .next) (slot-from-step p f a c b (omega arith) nz lt) in
     ⊎-elim (λ (e : slotFrom p (f - 1) c (nextSibling p c) b .next ≡ 0). inl (s ∙ e))
-    (λ (m : In (slotFrom p (f - 1) c (nextSibling p c) b .next) xs). inr (inr (subst (λ (k : ℕ). In k xs) (sym s) m)))
+    (λ (m : Among (slotFrom p (f - 1) c (nextSibling p c) b .next) xs). inr (inr (subst (λ (k : ℕ). Among k xs) (sym s) m)))
     (slot-from-next p b (f - 1) c (nextSibling p c) xs (subst (λ (k : ℕ). Chain (nextSibling p) (nextSibling p k) xs) (sym (h .0)) (h .2)) (omega arith)))
     (λ (ge : b ≤ label p c). inr (inl (ap (λ (s : Slot). s .next) (slot-from-here p f a c b nz ge) ∙ h .0)))
     (below-or-not (label p c) b)
 
-slot-from-finds : (p : Pool) (b f a c l : ℕ) (xs : List ℕ) → Chain (nextSibling p) c xs → LabelsRise p l xs → length xs ≤ f → (k : ℕ) → In k xs → label p k ≡ b
+slot-from-finds : (p : Pool) (b f a c l : ℕ) (xs : List ℕ) → Chain (nextSibling p) c xs → LabelsRise p l xs → length xs ≤ f → (k : ℕ) → Among k xs → label p k ≡ b
     → slotFrom p f a c b .next ≡ k
 slot-from-finds p b f a c l [] h r n k m e = absurd m
 slot-from-finds p b f a c l (x ∷ xs) h r n k (inl q) e =
@@ -105,27 +105,27 @@ abbrev pub placed : Pool → (b m : ℕ) → List ℕ → List ℕ
 placed p b m [] = m ∷ []
 placed p b m (x ∷ xs) = cond (ltb (label p x) b) (x ∷ placed p b m xs) (m ∷ x ∷ xs)
 
-pub in-placed : (p : Pool) (b m k : ℕ) (xs : List ℕ) → In k (placed p b m xs) → (k ≡ m) ⊎ In k xs
+pub in-placed : (p : Pool) (b m k : ℕ) (xs : List ℕ) → Among k (placed p b m xs) → (k ≡ m) ⊎ Among k xs
 in-placed p b m k [] h = h
 in-placed p b m k (x ∷ xs) h = go (ltb (label p x) b) (in-placed p b m k xs) h
   where
-    go : (t : Bool) → (In k (placed p b m xs) → (k ≡ m) ⊎ In k xs) → In k (cond t (x ∷ placed p b m xs) (m ∷ x ∷ xs)) → (k ≡ m) ⊎ ((k ≡ x) ⊎ In k xs)
+    go : (t : Bool) → (Among k (placed p b m xs) → (k ≡ m) ⊎ Among k xs) → Among k (cond t (x ∷ placed p b m xs) (m ∷ x ∷ xs)) → (k ≡ m) ⊎ ((k ≡ x) ⊎ Among k xs)
     go true ih (inl e) = inr (inl e)
     go true ih (inr q) = ⊎-elim (λ e. inl e) (λ r. inr (inr r)) (ih q)
     go false ih q = q
 
-pub placed-in : (p : Pool) (b m k : ℕ) (xs : List ℕ) → (k ≡ m) ⊎ In k xs → In k (placed p b m xs)
+pub placed-in : (p : Pool) (b m k : ℕ) (xs : List ℕ) → (k ≡ m) ⊎ Among k xs → Among k (placed p b m xs)
 placed-in p b m k [] h = h
 placed-in p b m k (x ∷ xs) h = go (ltb (label p x) b) (placed-in p b m k xs) h
   where
-    go : (t : Bool) → ((k ≡ m) ⊎ In k xs → In k (placed p b m xs)) → (k ≡ m) ⊎ ((k ≡ x) ⊎ In k xs) → In k (cond t (x ∷ placed p b m xs) (m ∷ x ∷ xs))
+    go : (t : Bool) → ((k ≡ m) ⊎ Among k xs → Among k (placed p b m xs)) → (k ≡ m) ⊎ ((k ≡ x) ⊎ Among k xs) → Among k (cond t (x ∷ placed p b m xs) (m ∷ x ∷ xs))
     go true ih (inl e) = inr (ih (inl e))
     go true ih (inr (inl e)) = inl e
     go true ih (inr (inr r)) = inr (ih (inr r))
     go false ih q = q
 
 module _ (p q : Pool) (b m : ℕ) (lab : label q m ≡ b) where
-  pub placed-rises : (l : ℕ) (xs : List ℕ) → LabelsRise p l xs → l ≤ b → ((k : ℕ) → In k xs → label q k ≡ label p k) → ((k : ℕ) → In k xs → label p k ≡ b → ⊥)
+  pub placed-rises : (l : ℕ) (xs : List ℕ) → LabelsRise p l xs → l ≤ b → ((k : ℕ) → Among k xs → label q k ≡ label p k) → ((k : ℕ) → Among k xs → label p k ≡ b → ⊥)
       → LabelsRise q l (placed p b m xs)
   placed-rises l [] h lb s ab = (omega arith, tt)
   placed-rises l (x ∷ xs) h lb s ab =
@@ -138,10 +138,10 @@ module _ (p q : Pool) (b m : ℕ) (lab : label q m ≡ b) where
       (below-or-not (label p x) b)
 
   -- the chain from h on, where the search from a, before c, came out at `out`
-  pub placed-chain : (f a c : ℕ) (xs : List ℕ) (out : Slot) → out ≡ slotFrom p f a c b → Chain (nextSibling p) c xs → length xs ≤ f → Once xs → (In a xs → ⊥) → 0 < m
+  pub placed-chain : (f a c : ℕ) (xs : List ℕ) (out : Slot) → out ≡ slotFrom p f a c b → Chain (nextSibling p) c xs → length xs ≤ f → Once xs → (Among a xs → ⊥) → 0 < m
       → nextSibling q m ≡ out .next
-      → ((k : ℕ) → In k xs → (k ≡ out .prev → ⊥) → nextSibling q k ≡ nextSibling p k)
-      → ((k : ℕ) → In k xs → k ≡ out .prev → nextSibling q k ≡ m)
+      → ((k : ℕ) → Among k xs → (k ≡ out .prev → ⊥) → nextSibling q k ≡ nextSibling p k)
+      → ((k : ℕ) → Among k xs → k ≡ out .prev → nextSibling q k ≡ m)
       → (h : ℕ) → (out .prev ≡ a → h ≡ m) → ((out .prev ≡ a → ⊥) → h ≡ c)
       → Chain (nextSibling q) h (placed p b m xs)
   placed-chain f a c [] out e l fl nd na mz nm sm lk h h1 h2 =
@@ -155,8 +155,8 @@ module _ (p q : Pool) (b m : ℕ) (lab : label q m ≡ b) where
       let lc : label p c < b = subst (λ (k : ℕ). label p k < b) (sym cx) lt in
       let o : out ≡ slotFrom p (f - 1) c (nextSibling p c) b = e ∙ slot-from-step p f a c b (omega arith) nz lc in
       let on : out ≡ slotFrom p (f - 1) x (nextSibling p x) b = subst (λ (k : ℕ). out ≡ slotFrom p (f - 1) k (nextSibling p k) b) cx o in
-      let there : (out .prev ≡ x) ⊎ In (out .prev) xs = subst (λ (s : Slot). (s .prev ≡ x) ⊎ In (s .prev) xs) (sym on) (slot-from-prev p b (f - 1) x (nextSibling p x) xs (l .2)) in
-      let far : out .prev ≡ a → ⊥ = λ z. na (subst (λ (k : ℕ). (k ≡ x) ⊎ In k xs) z there) in
+      let there : (out .prev ≡ x) ⊎ Among (out .prev) xs = subst (λ (s : Slot). (s .prev ≡ x) ⊎ Among (s .prev) xs) (sym on) (slot-from-prev p b (f - 1) x (nextSibling p x) xs (l .2)) in
+      let far : out .prev ≡ a → ⊥ = λ z. na (subst (λ (k : ℕ). (k ≡ x) ⊎ Among k xs) z there) in
       let rest : Chain (nextSibling q) (nextSibling q x) (placed p b m xs) =
       placed-chain (f - 1) x (nextSibling p x) xs out on (l .2) (omega arith) (nd .1) (nd .0) mz nm (λ k n. sm k (inr n)) (λ k n. lk k (inr n)) (nextSibling q x) (λ z. lk x (inl refl) (sym z)) (λ z. sm x (inl refl) (λ y. z (sym y))) in
       rw (lt-ltb _ _ lt) (h2 far ∙ cx, l .1, rest))
@@ -164,7 +164,7 @@ module _ (p q : Pool) (b m : ℕ) (lab : label q m ≡ b) where
       let gc : b ≤ label p c = subst (λ (k : ℕ). b ≤ label p k) (sym cx) ge in
       let o : out ≡ slot a c = e ∙ slot-from-here p f a c b nz gc in
       let pa : out .prev ≡ a = ap (λ (s : Slot). s .prev) o in
-      let stays : (k : ℕ) → (k ≡ x) ⊎ In k xs → nextSibling q k ≡ nextSibling p k = λ k n. sm k n (λ z. na (subst (λ (j : ℕ). (j ≡ x) ⊎ In j xs) (z ∙ pa) n)) in
+      let stays : (k : ℕ) → (k ≡ x) ⊎ Among k xs → nextSibling q k ≡ nextSibling p k = λ k n. sm k n (λ z. na (subst (λ (j : ℕ). (j ≡ x) ⊎ Among j xs) (z ∙ pa) n)) in
       let back : Chain (nextSibling q) c (x ∷ xs) = chain-same (nextSibling p) (nextSibling q) c (x ∷ xs) l stays in
       rw (le-ltb _ _ ge) (h1 pa, mz, subst (λ (j : ℕ). Chain (nextSibling q) j (x ∷ xs)) (sym (nm ∙ ap (λ (s : Slot). s .next) o)) back))
       (below-or-not (label p x) b)
@@ -180,11 +180,11 @@ module _ (p : Pool) (i b : ℕ) (s : Slot) (e : s ≡ slotOf p i b) where
   child-none h = rw (← e) (simp (ne-eqb _ _ h))
 
 module _ (p : Pool) (i b : ℕ) (K : Children p i) where
-  pub slot-prev-child : (slotOf p i b .prev ≡ 0) ⊎ In (slotOf p i b .prev) (K .kids)
+  pub slot-prev-child : (slotOf p i b .prev ≡ 0) ⊎ Among (slotOf p i b .prev) (K .kids)
   unfolding slotOf
   slot-prev-child = slot-from-prev p b (lastRecord p) 0 (firstChild p i) (K .kids) (K .chain)
 
-  slot-next-child : (slotOf p i b .next ≡ 0) ⊎ In (slotOf p i b .next) (K .kids)
+  slot-next-child : (slotOf p i b .next ≡ 0) ⊎ Among (slotOf p i b .next) (K .kids)
   unfolding slotOf
   slot-next-child = slot-from-next p b (lastRecord p) 0 (firstChild p i) (K .kids) (K .chain) (children-most p i K)
 
@@ -205,7 +205,7 @@ module _ (p : Pool) (i b : ℕ) (K : Children p i) where
   unfolding childAt
   child-is h = go (eqb (label p (slotOf p i b .next)) b) refl h
     where
-      stands : 0 < slotOf p i b .next → In (slotOf p i b .next) (K .kids)
+      stands : 0 < slotOf p i b .next → Among (slotOf p i b .next) (K .kids)
       stands z = ⊎-elim (λ (q : slotOf p i b .next ≡ 0). absurd (omega arith)) (λ m. m) slot-next-child
 
       go : (t : Bool) → eqb (label p (slotOf p i b .next)) b ≡ t → 0 < cond t (slotOf p i b .next) 0 → ChildBy p i b (cond t (slotOf p i b .next) 0)

@@ -40,9 +40,9 @@ use Rattle.keymap.proofs.Laws.Begins.{prefix-iff, prefix-append}
 use Rattle.keymap.proofs.Laws.Members.{in-map, distinct-same, ordered-weak, ordered-map}
 use Rattle.keymap.proofs.Laws.Prefixes.{prefixes-iff, prefixes-distinct, prefixes-insert}
 use Rattle.keymap.proofs.Laws.LevelOrder.{length-prefixes}
-use Rattle.records.specs.Words.{Pool, entry, label, value, valueOf, firstChild, nextSibling, parent, lastRecord, usedCount, InUse, Node, Bounded}
-use Rattle.records.specs.Sound.{In, Chain, LabelsRise, Children, Sound}
-use Rattle.records.specs.Spelling.{ChildBy, Spells, Stops, pathOf}
+use Rattle.records.specs.Words.{Pool, entry, label, value, recordValue, firstChild, nextSibling, parent, lastRecord, usedCount, InUse, Node, Bounded}
+use Rattle.records.specs.Sound.{Among, Chain, LabelsRise, Children, Sound}
+use Rattle.records.specs.Spelling.{ChildBy, Spells, Stops, recordPath}
 use Rattle.records.specs.Meaning.{siblingsFrom, forestBelow, poolForest, poolMap, Holds}
 use Rattle.records.proofs.Laws.Distinct.{below-or-not}
 use Rattle.records.proofs.Laws.Words.{count-last}
@@ -53,7 +53,7 @@ use Rattle.records.proofs.Laws.Spelling.{spells-join, spells-cut, spell
 -- these records as siblings
 abbrev pub forestOf : Pool → (ℕ → Forest) → List ℕ → Forest
 forestOf p below [] = empty
-forestOf p below (x ∷ xs) = node (label p x) (valueOf p x) (below x) (forestOf p below xs)
+forestOf p below (x ∷ xs) = node (label p x) (recordValue p x) (below x) (forestOf p below xs)
 
 module _ (p : Pool) (below : ℕ → Forest) where
   siblings-chain : (f x : ℕ) (xs : List ℕ) → Chain (nextSibling p) x xs → length xs ≤ f → siblingsFrom p below f x ≡ forestOf p below xs
@@ -65,36 +65,36 @@ module _ (p : Pool) (below : ℕ → Forest) where
       let r = siblings-chain f (nextSibling p y) ys (h .2) (omega arith) in
       rw (h .0, ne-eqb y 0 (λ e. omega (arith, h .1)), r)
 
-  branch-found : (l : ℕ) (xs : List ℕ) → LabelsRise p l xs → (x b : ℕ) → In x xs → label p x ≡ b → branch b (forestOf p below xs) ≡ (valueOf p x, below x)
+  branch-found : (l : ℕ) (xs : List ℕ) → LabelsRise p l xs → (x b : ℕ) → Among x xs → label p x ≡ b → branch b (forestOf p below xs) ≡ (recordValue p x, below x)
   unfolding branch
   branch-found l [] r x b i e = absurd i
-  branch-found l (y ∷ ys) r x b (inl i) e = rw (eq-eqb b (label p y) (sym e ∙ ap (λ (k : ℕ). label p k) i)) (let j : y ≡ x = sym i in λ t. (valueOf p (j t), below (j t)))
+  branch-found l (y ∷ ys) r x b (inl i) e = rw (eq-eqb b (label p y) (sym e ∙ ap (λ (k : ℕ). label p k) i)) (let j : y ≡ x = sym i in λ t. (recordValue p (j t), below (j t)))
   branch-found l (y ∷ ys) r x b (inr i) e =
       let up : label p y + 1 ≤ label p x = rises-above p (label p y + 1) ys (r .1) x i in
       rw (ne-eqb b (label p y) (λ q. omega arith)) (branch-found (label p y + 1) ys (r .1) x b i e)
 
-  branch-none : (xs : List ℕ) (b : ℕ) → ((x : ℕ) → In x xs → label p x ≡ b → ⊥) → branch b (forestOf p below xs) ≡ bare
+  branch-none : (xs : List ℕ) (b : ℕ) → ((x : ℕ) → Among x xs → label p x ≡ b → ⊥) → branch b (forestOf p below xs) ≡ bare
   unfolding branch
   branch-none [] b h = refl
   branch-none (y ∷ ys) b h = rw (ne-eqb b (label p y) (λ q. h y (inl refl) (sym q))) (branch-none ys b (λ x i. h x (inr i)))
 
-  fresh-found : (xs : List ℕ) (x b : ℕ) → In x xs → label p x ≡ b → freshLabel b (forestOf p below xs) ≡ 0
+  fresh-found : (xs : List ℕ) (x b : ℕ) → Among x xs → label p x ≡ b → freshLabel b (forestOf p below xs) ≡ 0
   unfolding freshLabel
   fresh-found [] x b i e = absurd i
   fresh-found (y ∷ ys) x b i e = go (eqb b (label p y)) refl i (λ j. fresh-found ys x b j e)
     where
-      go : (t : Bool) → eqb b (label p y) ≡ t → (x ≡ y) ⊎ In x ys → (In x ys → freshLabel b (forestOf p below ys) ≡ 0) → freshLabel b (forestOf p below (y ∷ ys)) ≡ 0
+      go : (t : Bool) → eqb b (label p y) ≡ t → (x ≡ y) ⊎ Among x ys → (Among x ys → freshLabel b (forestOf p below ys) ≡ 0) → freshLabel b (forestOf p below (y ∷ ys)) ≡ 0
       go true q j ih = rw q
       go false q (inl j) ih = absurd (eqb-false b (label p y) q (sym e ∙ ap (λ (k : ℕ). label p k) j))
       go false q (inr j) ih = rw q (ih j)
 
-  fresh-none : (xs : List ℕ) (b : ℕ) → ((x : ℕ) → In x xs → label p x ≡ b → ⊥) → freshLabel b (forestOf p below xs) ≡ 1
+  fresh-none : (xs : List ℕ) (b : ℕ) → ((x : ℕ) → Among x xs → label p x ≡ b → ⊥) → freshLabel b (forestOf p below xs) ≡ 1
   unfolding freshLabel
   fresh-none [] b h = refl
   fresh-none (y ∷ ys) b h = rw (ne-eqb b (label p y) (λ q. h y (inl refl) (sym q))) (fresh-none ys b (λ x i. h x (inr i)))
 
   -- each of the records has a value or something below it, and what is below it is orderly
-  forest-of-orderly : (l : ℕ) (xs : List ℕ) → LabelsRise p l xs → ((x : ℕ) → In x xs → Live (valueOf p x) (below x) × Orderly (below x)) → Orderly (forestOf p below xs)
+  forest-of-orderly : (l : ℕ) (xs : List ℕ) → LabelsRise p l xs → ((x : ℕ) → Among x xs → Live (recordValue p x) (below x) × Orderly (below x)) → Orderly (forestOf p below xs)
   forest-of-orderly l [] r h = tt
   forest-of-orderly l (y ∷ ys) r h =
       let o = h y (inl refl) in (above ys (r .1), o .0, o .1, forest-of-orderly (label p y + 1) ys (r .1) (λ x i. h x (inr i)))
@@ -109,7 +109,7 @@ module _ (p : Pool) (K : (c : ℕ) → Node p c → Children p c) where
   unfolding forestBelow
   below-children f i n = siblings-chain p (forestBelow f p) (lastRecord p) (firstChild p i) (K i n .kids) (K i n .chain) (children-most p i (K i n))
 
-  branch-child : (f i b x : ℕ) → Node p i → ChildBy p i b x → branch b (forestBelow (suc f) p i) ≡ (valueOf p x, forestBelow f p x)
+  branch-child : (f i b x : ℕ) → Node p i → ChildBy p i b x → branch b (forestBelow (suc f) p i) ≡ (recordValue p x, forestBelow f p x)
   branch-child f i b x n c =
       let k = K i n in
       rw (below-children f i n) (branch-found p (forestBelow f p) 0 (k .kids) (k .rising) x b (k .all x (c .0) (c .1)) (c .2))
@@ -121,13 +121,13 @@ module _ (p : Pool) (K : (c : ℕ) → Node p c → Children p c) where
       let k = K i n in
       rw (below-children f i n) (branch-none p (forestBelow f p) (k .kids) b (λ x m e. let o = k .only x m in h x (o .0, o .1, e)))
 
-  descend-spelled : (bs : Key) (f i c : ℕ) → Node p i → Spells p i bs c → length bs ≤ f → descend bs (valueOf p i, forestBelow f p i) ≡ (valueOf p c, forestBelow (f - length bs) p c)
+  descend-spelled : (bs : Key) (f i c : ℕ) → Node p i → Spells p i bs c → length bs ≤ f → descend bs (recordValue p i, forestBelow f p i) ≡ (recordValue p c, forestBelow (f - length bs) p c)
   unfolding descend
-  descend-spelled [] f i c n s l = let z : f ≡ f - 0 = omega arith in λ t. (valueOf p (s t), forestBelow (z t) p (s t))
+  descend-spelled [] f i c n s l = let z : f ≡ f - 0 = omega arith in λ t. (recordValue p (s t), forestBelow (z t) p (s t))
   descend-spelled (b ∷ bs) zero i c n s l = absurd (omega arith)
   descend-spelled (b ∷ bs) (suc f) i c n s l =
       let z : f - length bs ≡ suc f - suc (length bs) = omega arith in
-      rw (branch-child f i b (s .0) n (s .1)) (descend-spelled bs f (s .0) c (inr (s .1 .0)) (s .2) (omega arith) ∙ (λ t. (valueOf p c, forestBelow (z t) p c)))
+      rw (branch-child f i b (s .0) n (s .1)) (descend-spelled bs f (s .0) c (inr (s .1 .0)) (s .2) (omega arith) ∙ (λ t. (recordValue p c, forestBelow (z t) p c)))
 
   value-lost : (bs : Key) (f i : ℕ) (w : Option ℕ) → Node p i → ((c : ℕ) → Spells p i bs c → ⊥) → valueAt bs (w, forestBelow f p i) ≡ none
   unfolding valueAt descend forestBelow branch
@@ -137,7 +137,7 @@ module _ (p : Pool) (K : (c : ℕ) → Node p c → Children p c) where
       ⊎-elim
       (λ r.
       subst (λ (t : Tree). valueAt bs t ≡ none) (sym (branch-child f i b (r .0) n (r .1)))
-      (value-lost bs f (r .0) (valueOf p (r .0)) (inr (r .1 .0)) (λ c s. h c (r .0, r .1, s))))
+      (value-lost bs f (r .0) (recordValue p (r .0)) (inr (r .1 .0)) (λ c s. h c (r .0, r .1, s))))
       (λ (g : (x : ℕ) → ChildBy p i b x → ⊥). subst (λ (t : Tree). valueAt bs t ≡ none) (sym (branch-childless (suc f) i b n g)) (valueAt-bare bs))
       (child-or-not p K i b n)
 
@@ -167,19 +167,19 @@ module _ (p : Pool) (K : (c : ℕ) → Node p c → Children p c) where
   fresh-rest (b ∷ bs) rest zero i c w n s l h = absurd (omega arith)
   fresh-rest (b ∷ bs) rest (suc f) i c w n s l h =
       rw (fresh-child f i b (s .0) n (s .1), branch-child f i b (s .0) n (s .1))
-      (omega (arith, fresh-rest bs rest f (s .0) c (valueOf p (s .0)) (inr (s .1 .0)) (s .2) (omega arith) h))
+      (omega (arith, fresh-rest bs rest f (s .0) c (recordValue p (s .0)) (inr (s .1 .0)) (s .2) (omega arith) h))
 
-  -- the root's own value, which `valueOf` does not tell, plays no part below it
+  -- the root's own value, which `recordValue` does not tell, plays no part below it
   descend-root : (b : ℕ) (bs : Key) (v w : Option ℕ) (f : Forest) → descend (b ∷ bs) (v, f) ≡ descend (b ∷ bs) (w, f)
   unfolding descend
   descend-root b bs v w f = refl
 
-  pub value-spelled : (b : ℕ) (bs : Key) (c : ℕ) → Spells p 0 (b ∷ bs) c → valueAt (b ∷ bs) (none, poolForest p) ≡ valueOf p c
+  pub value-spelled : (b : ℕ) (bs : Key) (c : ℕ) → Spells p 0 (b ∷ bs) c → valueAt (b ∷ bs) (none, poolForest p) ≡ recordValue p c
   unfolding poolForest
   value-spelled b bs c s =
       valueAt-descend (b ∷ bs) (none, forestBelow (lastRecord p) p 0)
       ∙ ap (λ (t : Tree). t .0)
-      (descend-root b bs none (valueOf p 0) (forestBelow (lastRecord p) p 0) ∙ descend-spelled (b ∷ bs) (lastRecord p) 0 c (inl refl) s (spells-most p (b ∷ bs) c s))
+      (descend-root b bs none (recordValue p 0) (forestBelow (lastRecord p) p 0) ∙ descend-spelled (b ∷ bs) (lastRecord p) 0 c (inl refl) s (spells-most p (b ∷ bs) c s))
 
   pub value-unspelled : (k : Key) → ((c : ℕ) → Spells p 0 k c → ⊥) → valueAt k (none, poolForest p) ≡ none
   unfolding poolForest
@@ -199,20 +199,20 @@ listTree-forest f = refl
 
 -- ---- the forest is a trie's
 module _ (p : Pool) (s : Sound p) where
-  valued-some : (c : ℕ) → mark ≤ entry p c → valueOf p c ≡ some (value p c)
+  valued-some : (c : ℕ) → mark ≤ entry p c → recordValue p c ≡ some (value p c)
   valued-some c h = simp (le-leb _ _ h)
 
-  valued-none : (c : ℕ) → entry p c < mark → valueOf p c ≡ none
+  valued-none : (c : ℕ) → entry p c < mark → recordValue p c ≡ none
   valued-none c h = simp (lt-leb _ _ h)
 
   first-child : (c : ℕ) (n : Node p c) → 0 < firstChild p c → (x : ℕ) × InUse p x × (parent p x ≡ c)
   first-child c n h = go (s .children c n .kids) (s .children c n .chain) (s .children c n .only)
     where
-      go : (xs : List ℕ) → Chain (nextSibling p) (firstChild p c) xs → ((x : ℕ) → In x xs → InUse p x × (parent p x ≡ c)) → (x : ℕ) × InUse p x × (parent p x ≡ c)
+      go : (xs : List ℕ) → Chain (nextSibling p) (firstChild p c) xs → ((x : ℕ) → Among x xs → InUse p x × (parent p x ≡ c)) → (x : ℕ) × InUse p x × (parent p x ≡ c)
       go [] a o = absurd (omega arith)
       go (x ∷ xs) a o = let q = o x (inl refl) in (x, q .0, q .1)
 
-  forest-some : (w : Option ℕ) (below : ℕ → Forest) (xs : List ℕ) (x : ℕ) → In x xs → Live w (forestOf p below xs)
+  forest-some : (w : Option ℕ) (below : ℕ → Forest) (xs : List ℕ) (x : ℕ) → Among x xs → Live w (forestOf p below xs)
   forest-some (some v) below xs x i = tt
   forest-some none below [] x i = absurd i
   forest-some none below (y ∷ ys) x i = tt
@@ -221,7 +221,7 @@ module _ (p : Pool) (s : Sound p) where
   live-some w v g e = rw e tt
 
   -- a record at the end of a path, and as many levels as records may be below it
-  below-live : (f c : ℕ) (k : Key) → InUse p c → Spells p 0 k c → lastRecord p ≤ length k + f → Live (valueOf p c) (forestBelow f p c)
+  below-live : (f c : ℕ) (k : Key) → InUse p c → Spells p 0 k c → lastRecord p ≤ length k + f → Live (recordValue p c) (forestBelow f p c)
   below-live f c k u h l =
       ⊎-elim
       (λ (bare : entry p c < mark).
@@ -229,11 +229,11 @@ module _ (p : Pool) (s : Sound p) where
       let on = spells-child p 0 k c (label p (x .0)) (x .0) h (x .1, x .2, refl) in
       let most = spells-most p (k ++ (label p (x .0) ∷ [])) (x .0) on in
       has f (omega (arith, length-append k (label p (x .0) ∷ []))) (x .0) (s .children c (inr u) .all (x .0) (x .1) (x .2)))
-      (λ (m : mark ≤ entry p c). live-some (valueOf p c) (value p c) (forestBelow f p c) (valued-some c m)) (below-or-not (entry p c) mark)
+      (λ (m : mark ≤ entry p c). live-some (recordValue p c) (value p c) (forestBelow f p c) (valued-some c m)) (below-or-not (entry p c) mark)
     where
-      has : (f : ℕ) → 0 < f → (x : ℕ) → In x (s .children c (inr u) .kids) → Live (valueOf p c) (forestBelow f p c)
+      has : (f : ℕ) → 0 < f → (x : ℕ) → Among x (s .children c (inr u) .kids) → Live (recordValue p c) (forestBelow f p c)
       has zero z x i = absurd (omega arith)
-      has (suc f) z x i = rw (below-children p (s .children) f c (inr u)) (forest-some (valueOf p c) (forestBelow f p) (s .children c (inr u) .kids) x i)
+      has (suc f) z x i = rw (below-children p (s .children) f c (inr u)) (forest-some (recordValue p c) (forestBelow f p) (s .children c (inr u) .kids) x i)
 
   below-orderly : (f c : ℕ) (k : Key) → Node p c → Spells p 0 k c → lastRecord p ≤ length k + f → Orderly (forestBelow f p c)
   unfolding forestBelow
@@ -294,7 +294,7 @@ module _ (p : Pool) (s : Sound p) where
   spells-bytes i [] c h = tt
   spells-bytes i (b ∷ bs) c h = (omega (arith, h .1 .2), spells-bytes (h .0) bs c (h .2))
 
-  valued-value : (c v : ℕ) → valueOf p c ≡ some v → v ≡ value p c
+  valued-value : (c v : ℕ) → recordValue p c ≡ some v → v ≡ value p c
   valued-value c v e =
       ⊎-elim (λ (l : entry p c < mark). let n = valued-none c l in let z : _≡_ {A = ℕ} 0 1 = cc in absurd (omega arith))
       (λ (l : mark ≤ entry p c). let n = valued-some c l in cc) (below-or-not (entry p c) mark)
@@ -334,14 +334,14 @@ module _ (p : Pool) (s : Sound p) where
       (λ (m : mark ≤ entry p c). ([], c, u, refl, m)) (below-or-not (entry p c) mark)
 
   -- ---- the prefixes are the paths of records in use
-  pub map-prefixes : (k : Key) → members.In k (prefixes (poolMap p)) ↔ ((c : ℕ) × InUse p c × (k ≡ pathOf p c))
+  pub map-prefixes : (k : Key) → members.In k (prefixes (poolMap p)) ↔ ((c : ℕ) × InUse p c × (k ≡ recordPath p c))
   map-prefixes k = (λ i. to (prefixes-iff (poolMap p) k .0 i), λ r. prefixes-iff (poolMap p) k .1 (from r))
     where
       longer : (q : Key) → ¬ (q ≡ []) → 0 < length q
       longer [] n = absurd (n refl)
       longer (b ∷ bs) n = omega arith
 
-      to : (¬ (k ≡ [])) × SomeBegins k (poolMap p) → (c : ℕ) × InUse p c × (k ≡ pathOf p c)
+      to : (¬ (k ≡ [])) × SomeBegins k (poolMap p) → (c : ℕ) × InUse p c × (k ≡ recordPath p c)
       to r =
           let e = r .1 .0 in
           let h = map-holds (e .0) (e .1) .0 (r .1 .1) in
@@ -350,15 +350,15 @@ module _ (p : Pool) (s : Sound p) where
           let u = spells-in-use p 0 k (cut .0) (inr (longer k (r .0))) (inl refl) (cut .1) in
           (cut .0, u, path-only p s (cut .0) k (inr u) (cut .1))
 
-      from : ((c : ℕ) × InUse p c × (k ≡ pathOf p c)) → (¬ (k ≡ [])) × SomeBegins k (poolMap p)
+      from : ((c : ℕ) × InUse p c × (k ≡ recordPath p c)) → (¬ (k ≡ [])) × SomeBegins k (poolMap p)
       from r =
           let c = r .0 in
           let h = path-spells p s c (inr (r .1)) in
-          let g = through (lastRecord p) c (pathOf p c) (r .1) h (omega arith) in
-          let held = map-holds (pathOf p c ++ g .0) (value p (g .1)) .1
-          (record { at = g .1; used = g .2; spelled = spells-join p 0 (pathOf p c) (g .0) c (g .1) h (g .3); valued = valued-some (g .1) (g .4) }) in (
+          let g = through (lastRecord p) c (recordPath p c) (r .1) h (omega arith) in
+          let held = map-holds (recordPath p c ++ g .0) (value p (g .1)) .1
+          (record { at = g .1; used = g .2; spelled = spells-join p 0 (recordPath p c) (g .0) c (g .1) h (g .3); valued = valued-some (g .1) (g .4) }) in (
             (λ z. let e : 0 ≡ c = subst (λ (q : Key). Spells p 0 q c) (sym (r .2) ∙ z) h in omega (arith, r .1 .0)),
-            ((pathOf p c ++ g .0, value p (g .1)), held, subst (λ (q : Key). PrefixOf q (pathOf p c ++ g .0)) (sym (r .2)) (prefix-append (pathOf p c) (g .0))),
+            ((recordPath p c ++ g .0, value p (g .1)), held, subst (λ (q : Key). PrefixOf q (recordPath p c ++ g .0)) (sym (r .2)) (prefix-append (recordPath p c) (g .0))),
           )
 
   -- the numbers from n down to 1
@@ -382,24 +382,24 @@ module _ (p : Pool) (s : Sound p) where
   down-length zero = refl
   down-length (suc n) = ap suc (down-length n)
 
-  paths-distinct : members.Distinct (map (pathOf p) (downFrom (lastRecord p)))
+  paths-distinct : members.Distinct (map (recordPath p) (downFrom (lastRecord p)))
   paths-distinct =
-      ordered-map (λ (x y : ℕ). ¬ (pathOf p x ≡ pathOf p y)) (λ (q r : Key). ¬ (q ≡ r)) (pathOf p) (λ x y n. n) (downFrom (lastRecord p))
+      ordered-map (λ (x y : ℕ). ¬ (recordPath p x ≡ recordPath p y)) (λ (q r : Key). ¬ (q ≡ r)) (recordPath p) (λ x y n. n) (downFrom (lastRecord p))
       (ordered-weak (downFrom (lastRecord p)) (λ x y i j n e. n (one x y (in-down _ x i) (in-down _ y j) e)) (down-distinct (lastRecord p)))
     where
-      one : (x y : ℕ) → InUse p x → InUse p y → pathOf p x ≡ pathOf p y → x ≡ y
+      one : (x y : ℕ) → InUse p x → InUse p y → recordPath p x ≡ recordPath p y → x ≡ y
       one x y u w e =
-          spells-one-record p (s .children) 0 (pathOf p x) x y (inl refl) (path-spells p s x (inr u)) (subst (λ (q : Key). Spells p 0 q y) (sym e) (path-spells p s y (inr w)))
+          spells-one-record p (s .children) 0 (recordPath p x) x y (inl refl) (path-spells p s x (inr u)) (subst (λ (q : Key). Spells p 0 q y) (sym e) (path-spells p s y (inr w)))
 
   pub count-prefixes : length (prefixes (poolMap p)) ≡ usedCount p
   count-prefixes =
-      distinct-same (prefixes (poolMap p)) (map (pathOf p) (downFrom (lastRecord p))) (prefixes-distinct (poolMap p) map-rising) paths-distinct both
-      ∙ length-map (downFrom (lastRecord p)) (pathOf p) ∙ down-length (lastRecord p) ∙ sym (count-last p)
+      distinct-same (prefixes (poolMap p)) (map (recordPath p) (downFrom (lastRecord p))) (prefixes-distinct (poolMap p) map-rising) paths-distinct both
+      ∙ length-map (downFrom (lastRecord p)) (recordPath p) ∙ down-length (lastRecord p) ∙ sym (count-last p)
     where
-      both : (k : Key) → members.In k (prefixes (poolMap p)) ↔ members.In k (map (pathOf p) (downFrom (lastRecord p)))
+      both : (k : Key) → members.In k (prefixes (poolMap p)) ↔ members.In k (map (recordPath p) (downFrom (lastRecord p)))
       both k = (
-        λ i. let r = map-prefixes k .0 i in in-map (pathOf p) k (downFrom (lastRecord p)) .1 (r .0, down-in (lastRecord p) (r .0) (r .1 .0) (r .1 .1), r .2),
-        λ i. let r = in-map (pathOf p) k (downFrom (lastRecord p)) .0 i in map-prefixes k .1 (r .0, in-down (lastRecord p) (r .0) (r .1), r .2),
+        λ i. let r = map-prefixes k .0 i in in-map (recordPath p) k (downFrom (lastRecord p)) .1 (r .0, down-in (lastRecord p) (r .0) (r .1 .0) (r .1 .1), r .2),
+        λ i. let r = in-map (recordPath p) k (downFrom (lastRecord p)) .0 i in map-prefixes k .1 (r .0, in-down (lastRecord p) (r .0) (r .1), r .2),
       )
 
   pub count-forest : size (poolForest p) ≡ usedCount p

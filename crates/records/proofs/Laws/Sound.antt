@@ -16,7 +16,7 @@ use mathlib.Core.Logic.{inl, inr}
 use lib.ListN.{length}
 use native.Mathlib.Omega.{arith}
 use Rattle.records.specs.Words.{Pool, label, parent, lastRecord, usedCount, InUse, Node, capacity}
-use Rattle.records.specs.Sound.{In, Chain, LabelsRise, Children, Sound}
+use Rattle.records.specs.Sound.{Among, Chain, LabelsRise, Children, Sound}
 use Rattle.records.proofs.Laws.Distinct.{Once, once-at-most}
 use Rattle.records.proofs.Laws.Words.{count-last, parent-node}
 
@@ -36,7 +36,7 @@ module _ (f : ℕ → ℕ) where
     goes : Chain f x list
     short : length list ≤ n
 
-  chain-tail : (c : ℕ) (xs : List ℕ) → Chain f c xs → (x : ℕ) → In x xs → Tail x (length xs)
+  chain-tail : (c : ℕ) (xs : List ℕ) → Chain f c xs → (x : ℕ) → Among x xs → Tail x (length xs)
   chain-tail c [] h x m = absurd m
   chain-tail c (y ∷ ys) h x (inl e) = record { list = y ∷ ys; goes = (e, h .1, h .2); short = omega arith }
   chain-tail c (y ∷ ys) h x (inr m) = let t = chain-tail (f y) ys (h .2) x m in record { list = t .list; goes = t .goes; short = omega (arith, t .short) }
@@ -51,22 +51,22 @@ module _ (f : ℕ → ℕ) where
     chain-distinct (f x) xs (h .2),
   )
 
-pub chain-same : (f g : ℕ → ℕ) (c : ℕ) (xs : List ℕ) → Chain f c xs → ((x : ℕ) → In x xs → g x ≡ f x) → Chain g c xs
+pub chain-same : (f g : ℕ → ℕ) (c : ℕ) (xs : List ℕ) → Chain f c xs → ((x : ℕ) → Among x xs → g x ≡ f x) → Chain g c xs
 chain-same f g c [] h s = h
 chain-same f g c (x ∷ xs) h s = (h .0, h .1, rw (s x (inl refl)) (chain-same f g (f x) xs (h .2) (λ k m. s k (inr m))))
 
 -- a chain with a member does not start at its end
-pub chain-starts : (f : ℕ → ℕ) (c : ℕ) (xs : List ℕ) → Chain f c xs → (x : ℕ) → In x xs → 0 < c
+pub chain-starts : (f : ℕ → ℕ) (c : ℕ) (xs : List ℕ) → Chain f c xs → (x : ℕ) → Among x xs → 0 < c
 chain-starts f c [] l x h = absurd h
 chain-starts f c (y ∷ ys) l x h = omega (arith, l .0, l .1)
 
-pub rises-same : (p q : Pool) (l : ℕ) (xs : List ℕ) → LabelsRise p l xs → ((x : ℕ) → In x xs → label q x ≡ label p x) → LabelsRise q l xs
+pub rises-same : (p q : Pool) (l : ℕ) (xs : List ℕ) → LabelsRise p l xs → ((x : ℕ) → Among x xs → label q x ≡ label p x) → LabelsRise q l xs
 rises-same p q l [] h s = tt
 rises-same p q l (x ∷ xs) h s =
     let e : label q x ≡ label p x = s x (inl refl) in
     (omega (arith, h .0), rw e (rises-same p q (label p x + 1) xs (h .1) (λ k m. s k (inr m))))
 
-pub rises-above : (p : Pool) (l : ℕ) (xs : List ℕ) → LabelsRise p l xs → (x : ℕ) → In x xs → l ≤ label p x
+pub rises-above : (p : Pool) (l : ℕ) (xs : List ℕ) → LabelsRise p l xs → (x : ℕ) → Among x xs → l ≤ label p x
 rises-above p l [] r c h = absurd h
 rises-above p l (x ∷ xs) r c (inl e) = subst (λ (k : ℕ). l ≤ label p k) (sym e) (r .0)
 rises-above p l (x ∷ xs) r c (inr h) =

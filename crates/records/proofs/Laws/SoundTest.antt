@@ -24,7 +24,7 @@ use Rattle.keymap.specs.Label.{mark}
 use Rattle.records.specs.declared.soundness.Rest.{Rest}
 use Rattle.records.specs.declared.soundness.Rest.the-variants.{Left, Broken}
 use Rattle.records.specs.Words.{Pool, recordWords, entry, label, value, firstChild, nextSibling, parent, lastRecord, usedCount, InUse, capacity}
-use Rattle.records.specs.Sound.{In, Chain, LabelsRise, Children, Sound}
+use Rattle.records.specs.Sound.{Among, Chain, LabelsRise, Children, Sound}
 use Rattle.records.specs.SoundTest.{both, wordsFit, recordFits, isChild, chainRest, recordRest, passRest, noneLeft, rootFits, soundTest}
 use Rattle.records.proofs.Laws.Distinct.{Once, equal-or-not, in-append, in-left, in-right, once-append, once-at-most, cover-at-least, once-covers}
 use Rattle.records.proofs.Laws.Words.{count-last, node-within, within-node}
@@ -155,7 +155,7 @@ record Followed (p : Pool) (n c left x l k : ℕ) : Type 0 where
   kids : List ℕ
   chain : Chain (nextSibling p) x kids
   rising : LabelsRise p l kids
-  only : (y : ℕ) → In y kids → (0 < y) × (y ≤ n) × (parent p y ≡ c)
+  only : (y : ℕ) → Among y kids → (0 < y) × (y ≤ n) × (parent p y ≡ c)
   count : left ≡ length kids + k
 
 left-same : (a b : ℕ) → Left a ≡ Left b → a ≡ b
@@ -204,7 +204,7 @@ module _ (p : Pool) (n c : ℕ) where
       go false true a d b ih = goes-on m x l k (eqb-false _ _ a) d (ih b)
       go false false a d b ih = absurd (broken-left k b)
 
-  followed-rest : (xs : List ℕ) (left x l : ℕ) → Chain (nextSibling p) x xs → LabelsRise p l xs → ((y : ℕ) → In y xs → (0 < y) × (y ≤ n) × (parent p y ≡ c))
+  followed-rest : (xs : List ℕ) (left x l : ℕ) → Chain (nextSibling p) x xs → LabelsRise p l xs → ((y : ℕ) → Among y xs → (0 < y) × (y ≤ n) × (parent p y ≡ c))
       → length xs ≤ left → chainRest p n c left x l ≡ Left (left - length xs)
   followed-rest [] left x l a r o h = let z : left ≡ left - 0 = omega arith in chain-rest-end p n c left x l a ∙ ap Left z
   followed-rest (y ∷ xs) left x l a r o h =
@@ -225,14 +225,14 @@ module _ (p : Pool) (n all : ℕ) where
     kids : List ℕ
     chain : Chain (nextSibling p) (firstChild p c) kids
     rising : LabelsRise p 0 kids
-    only : (x : ℕ) → In x kids → (0 < x) × (x ≤ n) × (parent p x ≡ c)
-    back : (x : ℕ) → In x met → parent p x ≡ c → In x kids
+    only : (x : ℕ) → Among x kids → (0 < x) × (x ≤ n) × (parent p x ≡ c)
+    back : (x : ℕ) → Among x met → parent p x ≡ c → Among x kids
 
   -- after records 0 to j - 1, with k records left
   record Passed (j k : ℕ) : Type 0 where
     met : List ℕ
     once : Once met
-    inside : (x : ℕ) → In x met → (0 < x) × (x ≤ n) × (parent p x < j)
+    inside : (x : ℕ) → Among x met → (0 < x) × (x ≤ n) × (parent p x < j)
     count : all ≡ length met + k
     each : (c : ℕ) → c < j → Part met c
 
@@ -289,8 +289,8 @@ module _ (p : Pool) (s : Sound p) where
     met : List ℕ
     left : passRest p n n j ≡ Left (n - length met)
     once : Once met
-    inside : (x : ℕ) → In x met → (0 < x) × (x ≤ n) × (parent p x < j)
-    all : (x : ℕ) → InUse p x → parent p x < j → In x met
+    inside : (x : ℕ) → Among x met → (0 < x) × (x ≤ n) × (parent p x < j)
+    all : (x : ℕ) → InUse p x → parent p x < j → Among x met
 
   own-words : (c : ℕ) → InUse p c → OwnWords p n c
   own-words c u = let f = s .fits c u in (f .entry-below, f .child-within, f .sibling-within, f .parent-below, f .unvalued)
@@ -323,7 +323,7 @@ module _ (p : Pool) (s : Sound p) where
       once : Once (chained j l .kids ++ d .met)
       once = once-append (chained j l .kids) (d .met) (rises-distinct p 0 (chained j l .kids) (chained j l .rising)) (d .once) (λ x a b. omega (arith, chained j l .only x a .1, d .inside x b))
 
-      within : (x : ℕ) → In x (chained j l .kids ++ d .met) → (0 < x) × (x ≤ n) × (parent p x < suc j)
+      within : (x : ℕ) → Among x (chained j l .kids ++ d .met) → (0 < x) × (x ≤ n) × (parent p x < suc j)
       within x h =
           ⊎-elim (λ a. let q = chained j l .only x a in (q .0 .0, q .0 .1, omega arith)) (λ b. let q = d .inside x b in (q .0, q .1, omega arith)) (in-append x (chained j l .kids) (d .met) h)
 
@@ -350,7 +350,7 @@ test-sound p e =
     let r1 = both-second _ _ r in
     let r2 = both-second _ _ r1 in
     let u = rest-passed p (lastRecord p) (usedCount p) (suc (lastRecord p)) 0 (none-left _ (both-second _ _ (both-second _ _ e))) in
-    let every : (x : ℕ) → InUse p x → In x (u .met) =
+    let every : (x : ℕ) → InUse p x → Among x (u .met) =
     λ x v. once-covers (lastRecord p) (u .met) (u .once) (λ y m. (u .inside y m .0, u .inside y m .1)) (omega (arith, u .count, count-last p)) x (v .0) (v .1) in
     record {
       rooted = leb-true _ _ (both-first _ _ e);

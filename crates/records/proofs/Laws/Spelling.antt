@@ -20,8 +20,8 @@ use lib.ListN.{length}
 use borrow.Author.Tests.{eq-eqb, ne-eqb}
 use Rattle.keymap.specs.Key.{Key}
 use Rattle.records.specs.Words.{Pool, label, parent, lastRecord, InUse, Node}
-use Rattle.records.specs.Sound.{In, Chain, LabelsRise, Children, Sound}
-use Rattle.records.specs.Spelling.{ChildBy, Spells, pathUp, pathOf, Climbs}
+use Rattle.records.specs.Sound.{Among, Chain, LabelsRise, Children, Sound}
+use Rattle.records.specs.Spelling.{ChildBy, Spells, pathUp, recordPath, Climbs}
 use Rattle.records.proofs.Laws.Distinct.{equal-or-not, once-at-most}
 use Rattle.records.proofs.Laws.Sound.{chain-distinct, rises-above, parent-in-use}
 
@@ -84,7 +84,7 @@ module _ (p : Pool) where
   record Up (k n : ℕ) : Type 0 where
     up : List ℕ
     chain : Chain (parent p) k up
-    used : (x : ℕ) → In x up → InUse p x
+    used : (x : ℕ) → Among x up → InUse p x
     count : length up ≡ n
 
   spells-up : (j : ℕ) (bs : Key) (k n : ℕ) → Spells p j bs k → Up j n → Up k (length bs + n)
@@ -106,7 +106,7 @@ module _ (p : Pool) where
       omega (arith, u .count, once-at-most (lastRecord p) (u .up) (chain-distinct (parent p) k (u .up) (u .chain)) (u .used))
 
   -- ---- the path of a record
-  path-up-spells : (up : List ℕ) (f c : ℕ) → Chain (parent p) c up → ((x : ℕ) → In x up → InUse p x) → length up ≤ f → Spells p 0 (pathUp f p c) c
+  path-up-spells : (up : List ℕ) (f c : ℕ) → Chain (parent p) c up → ((x : ℕ) → Among x up → InUse p x) → length up ≤ f → Spells p 0 (pathUp f p c) c
   unfolding pathUp
   path-up-spells [] zero c h u l = sym h
   path-up-spells [] (suc f) c h u l = rw (eq-eqb c 0 h) (sym h)
@@ -118,29 +118,29 @@ module _ (p : Pool) where
       rw (ne-eqb c 0 (λ e. omega (arith, used .0))) (spells-child 0 (pathUp f p (parent p c)) (parent p c) (label p c) c above (used, refl, refl))
 
   module _ (s : Sound p) where
-    pub path-spells : (c : ℕ) → Node p c → Spells p 0 (pathOf p c) c
-    unfolding pathOf
+    pub path-spells : (c : ℕ) → Node p c → Spells p 0 (recordPath p c) c
+    unfolding recordPath
     path-spells c n =
         let w = sound-climbs p s c n in
         path-up-spells (w .up) (lastRecord p) c (w .chain) (w .used) (once-at-most (lastRecord p) (w .up) (chain-distinct (parent p) c (w .up) (w .chain)) (w .used))
 
-    pub path-only : (c : ℕ) (k : Key) → Node p c → Spells p 0 k c → k ≡ pathOf p c
-    path-only c k n h = spells-one-path k (pathOf p c) c h (path-spells c n)
+    pub path-only : (c : ℕ) (k : Key) → Node p c → Spells p 0 k c → k ≡ recordPath p c
+    path-only c k n h = spells-one-path k (recordPath p c) c h (path-spells c n)
 
 -- ---- one record
-label-one : (p : Pool) (l : ℕ) (xs : List ℕ) → LabelsRise p l xs → (x y : ℕ) → In x xs → In y xs → label p x ≡ label p y → x ≡ y
+label-one : (p : Pool) (l : ℕ) (xs : List ℕ) → LabelsRise p l xs → (x y : ℕ) → Among x xs → Among y xs → label p x ≡ label p y → x ≡ y
 label-one p l [] r x y i j e = absurd i
 label-one p l (z ∷ zs) r x y (inl i) (inl j) e = i ∙ sym j
 label-one p l (z ∷ zs) r x y (inl i) (inr j) e = absurd (omega (arith, rises-above p (label p z + 1) zs (r .1) y j, ap (λ (k : ℕ). label p k) i))
 label-one p l (z ∷ zs) r x y (inr i) (inl j) e = absurd (omega (arith, rises-above p (label p z + 1) zs (r .1) x i, ap (λ (k : ℕ). label p k) j))
 label-one p l (z ∷ zs) r x y (inr i) (inr j) e = label-one p (label p z + 1) zs (r .1) x y i j e
 
-label-or-not : (p : Pool) (b : ℕ) (xs : List ℕ) → ((x : ℕ) × In x xs × (label p x ≡ b)) ⊎ ((x : ℕ) → In x xs → label p x ≡ b → ⊥)
+label-or-not : (p : Pool) (b : ℕ) (xs : List ℕ) → ((x : ℕ) × Among x xs × (label p x ≡ b)) ⊎ ((x : ℕ) → Among x xs → label p x ≡ b → ⊥)
 label-or-not p b [] = inr (λ x i e. i)
 label-or-not p b (x ∷ xs) =
     ⊎-elim (λ (e : label p x ≡ b). inl (x, inl refl, e))
     (λ (ne : label p x ≡ b → ⊥).
-    ⊎-elim (λ r. inl (r .0, inr (r .1), r .2)) (λ (n : (y : ℕ) → In y xs → label p y ≡ b → ⊥). inr (λ y i e. ⊎-elim (λ (q : y ≡ x). ne (sym (ap (λ (k : ℕ). label p k) q) ∙ e)) (λ j. n y j e) i))
+    ⊎-elim (λ r. inl (r .0, inr (r .1), r .2)) (λ (n : (y : ℕ) → Among y xs → label p y ≡ b → ⊥). inr (λ y i e. ⊎-elim (λ (q : y ≡ x). ne (sym (ap (λ (k : ℕ). label p k) q) ∙ e)) (λ j. n y j e) i))
     (label-or-not p b xs))
     (equal-or-not (label p x) b)
 
@@ -159,7 +159,7 @@ module _ (p : Pool) (K : (c : ℕ) → Node p c → Children p c) where
   child-or-not i b n =
       let k = K i n in
       ⊎-elim (λ r. let o = k .only (r .0) (r .1) in inl (r .0, (o .0, o .1, r .2)))
-      (λ (h : (x : ℕ) → In x (k .kids) → label p x ≡ b → ⊥). inr (λ x c. h x (k .all x (c .0) (c .1)) (c .2))) (label-or-not p b (k .kids))
+      (λ (h : (x : ℕ) → Among x (k .kids) → label p x ≡ b → ⊥). inr (λ x c. h x (k .all x (c .0) (c .1)) (c .2))) (label-or-not p b (k .kids))
 
   pub spelled-or-not : (bs : Key) (i : ℕ) → Node p i → ((c : ℕ) × Spells p i bs c) ⊎ ((c : ℕ) → Spells p i bs c → ⊥)
   spelled-or-not [] i n = inl (i, refl)

@@ -23,7 +23,7 @@ use lib.Seq.{length-take-le, take-suc, drop-cons, drop-length}
 use borrow.Author.Tests.{lt-leb, leb-false}
 use Rattle.keymap.specs.Members.{In}
 use Rattle.keymap.specs.Key.{Key, PrefixOf}
-use Rattle.keymap.specs.Refusals.{refusalNumber}
+use Rattle.keymap.specs.Refusals.{refuses}
 use Rattle.keymap.specs.Refusals.{NotAnImage as refused-image}
 use Rattle.keymap.specs.Map.{Entry, Map, Rising, lookup}
 use Rattle.keymap.specs.Queries.{commonPrefixIn}
@@ -187,7 +187,7 @@ module _ (i : Image) (h : MapImage i) (q : Key) (seen : ℕ) where
 -- ---- what the call says
 
 module _ (i : Image) (q : Key) (seen : ℕ) where
-  pub commonSays-refused : imageTest i ≡ false → commonSays i q seen ≡ refusalNumber refused-image ∷ []
+  pub commonSays-refused : imageTest i ≡ false → commonSays i q seen ≡ refuses refused-image
   unfolding commonSays
   commonSays-refused e = rw e
 
@@ -209,7 +209,7 @@ module _ (i : Image) (q : Key) (seen : ℕ) where
       found (some d) NoMatch f g = let z : _≡_ {A = List ℕ} [] (length (d .0) ∷ d .1 ∷ []) = cc in let w : _≡_ {A = ℕ} 0 1 = cc in absurd (omega arith)
       found (some d) NotAnImage f g = let z : _≡_ {A = ℕ} 6 0 = cc in absurd (omega arith)
 
-      refused : (a : Common) → saidCommon a ≡ refusalNumber refused-image ∷ [] → (partLength a ≤ length q) × (take (partLength a) q ≡ [])
+      refused : (a : Common) → saidCommon a ≡ refuses refused-image → (partLength a ≤ length q) × (take (partLength a) q ≡ [])
       refused (Match l v) g = let z : _≡_ {A = ℕ} 0 6 = cc in absurd (omega arith)
       refused NoMatch g = let z : _≡_ {A = ℕ} 0 6 = cc in absurd (omega arith)
       refused NotAnImage g = (omega arith, refl)

@@ -24,7 +24,7 @@ use lib.ListN.{length, set}
 use lib.Dec.{ltb}
 use Rattle.keymap.specs.Key.{Key}
 use Rattle.keymap.specs.Limits.{valueLimit}
-use Rattle.keymap.specs.Refusals.{refusalNumber, NotAnImage}
+use Rattle.keymap.specs.Refusals.{refuses, NotAnImage}
 use Rattle.keymap.specs.Map.{Map, Catalogue, insert, lookup}
 use Rattle.keymap.specs.Queries.{isPrefixIn}
 use Rattle.keymap.specs.Answers.{saysValue, saysFlag}
@@ -147,11 +147,11 @@ module _ (i : Image) (h : MapImage i) where
 -- ---- what the calls say
 
 module _ (i : Image) (q : Key) (refused : imageTest i ≡ false) where
-  pub exactSays-refused : exactSays i q ≡ refusalNumber NotAnImage ∷ []
+  pub exactSays-refused : exactSays i q ≡ refuses NotAnImage
   unfolding exactSays
   exactSays-refused = rw refused
 
-  pub isPrefixSays-refused : isPrefixSays i q ≡ refusalNumber NotAnImage ∷ []
+  pub isPrefixSays-refused : isPrefixSays i q ≡ refuses NotAnImage
   unfolding isPrefixSays
   isPrefixSays-refused = rw refused
 

@@ -30,7 +30,7 @@ use Rattle.louds.specs.declared.Kids.{Kids}
 use Rattle.louds.specs.declared.Kids.the-variants.{Run, NoNode}
 use Rattle.louds.specs.Nodes.{childrenOf}
 use Rattle.louds.proofs.Laws.Nodes.{children-agree}
-use Rattle.image.specs.Accept.{entries, entryOf, valueOf}
+use Rattle.image.specs.Accept.{entries, nodeEntry, nodeValue}
 use Rattle.image.specs.AcceptTest.{lengthsFit}
 use Rattle.image.proofs.Laws.AcceptTest.{lengths-told}
 use Rattle.walks.specs.Rule.{counts, matches, isChildBy, lowestBy, childBy, stepBy, walkedFrom, walked, valueOfNode, valueAtEnd, nodeBy}
@@ -188,7 +188,7 @@ untested-alike-looked i j q h = go (lengthsFit i) refl
         lengths : length (i .values) ≡ length (j .values)
         lengths = omega (arith, lengths-told i fit .values-fit, lengths-told j (sym (h .lengths) ∙ fit) .values-fit, h .number)
 
-        entry : 2 ≤ m → entryOf i m ≡ entryOf j m
+        entry : 2 ≤ m → nodeEntry i m ≡ nodeEntry j m
         entry two = ⊎-elim (λ f. absurd (omega (arith, two, one f))) (λ n. h .siblings m n) (end-looked (i .labels) (bit (i .words)) (bitsFor (entries i)) q (some 1) m e)
           where
             one : _≡_ {A = Option ℕ} (some 1) (some m) → 1 ≡ m

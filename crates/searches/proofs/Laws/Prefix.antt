@@ -19,7 +19,7 @@ use lib.ListN.{length, drop}
 use Rattle.keymap.specs.Members.{In, here}
 use Rattle.keymap.specs.Key.{Key}
 use Rattle.keymap.specs.Limits.{mostRecords}
-use Rattle.keymap.specs.Refusals.{refusalNumber, NotAnImage, KeyRoom}
+use Rattle.keymap.specs.Refusals.{refuses, NotAnImage, KeyRoom}
 use Rattle.keymap.specs.Map.{Map}
 use Rattle.keymap.specs.Queries.{beginning, commonOfAll, longestPrefixIn}
 use Rattle.keymap.specs.Bits.{bit}
@@ -117,7 +117,7 @@ pub record LongestIs (i : Image) (q : Key) (out : List ℕ) (says : List ℕ) (a
   pub after-is : longestOut i q out ≡ after
 
 module _ (i : Image) (q : Key) (out : List ℕ) where
-  pub longest-refused : imageTest i ≡ false → LongestIs i q out (refusalNumber NotAnImage ∷ []) out
+  pub longest-refused : imageTest i ≡ false → LongestIs i q out (refuses NotAnImage) out
   unfolding longestSays longestOut
   longest-refused e = record { says-is = rw e; after-is = rw e }
 
@@ -129,7 +129,7 @@ module _ (i : Image) (q : Key) (out : List ℕ) where
         record { says-is = rw (tested, e); after-is = rw (tested, e) }
 
     module _ (some-there : 0 < length (commonOf (imageMap i) q)) where
-      pub longest-short : length out < length (commonOf (imageMap i) q) → LongestIs i q out (refusalNumber KeyRoom ∷ []) out
+      pub longest-short : length out < length (commonOf (imageMap i) q) → LongestIs i q out (refuses KeyRoom) out
       unfolding longestSays longestOut
       longest-short l =
           let e = longest-some q (imageMap i) some-there in

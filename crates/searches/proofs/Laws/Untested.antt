@@ -9,7 +9,7 @@ use mathlib.Core.Bool.{true, false}
 use mathlib.Core.List.{[], _∷_}
 use Rattle.keymap.specs.Key.{Key}
 use Rattle.keymap.specs.Map.{lookup}
-use Rattle.keymap.specs.Refusals.{refusalNumber, NotAnImage}
+use Rattle.keymap.specs.Refusals.{refuses, NotAnImage}
 use Rattle.keymap.specs.Answers.{saysValue}
 use Rattle.keymap.specs.Image.{Image}
 use Rattle.keymap.specs.Decode.{imageMap}
@@ -26,7 +26,7 @@ use Rattle.searches.proofs.Laws.Exact.{exactSays-accepted}
 
 module _ (i : Image) where
   module _ (q : Key) where
-    pub untestedSays-refused : lengthsFit i ≡ false → untestedSays i q ≡ refusalNumber NotAnImage ∷ []
+    pub untestedSays-refused : lengthsFit i ≡ false → untestedSays i q ≡ refuses NotAnImage
     unfolding untestedSays
     untestedSays-refused e = rw e
 

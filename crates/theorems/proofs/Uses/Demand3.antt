@@ -18,7 +18,7 @@ use Rattle.pool.specs.UseCount.{useCountSays}
 use Rattle.pool.specs.Push.{pushSays}
 use Rattle.pool.specs.History.{AllLent, mapRun}
 use Rattle.pool.specs.History as pools
-use Rattle.image.specs.History.{Call, poolCalls, runSays, mapRunSays}
+use Rattle.image.specs.History.{Call, poolCalls, historySays, mapHistorySays}
 use Rattle.image.specs.Build.{buffersFit, fitSays, buildSays, buildScratch}
 use Rattle.theorems.specs.Built.{poolAfter, builtImage}
 use Rattle.theorems.specs.Demand3.{Demand3}
@@ -34,15 +34,15 @@ resets = ofA .resets
 
 -- "c" 5 and a reset, "ab" 7, "b" 3, then "c" (4, capacity is 3), the empty key (3), "ab" 9 (accepted), the use count, a build that lacks a scratch entry (5) and one that does not
 abbrev long : List Call
-long = push c 5 ∷ Call.onPool pools.Call.reset ∷ push ab 7 ∷ push b 3 ∷ push c 1 ∷ push [] 1 ∷ push ab 9 ∷ useCount ∷ Call.build four four two two ∷ Call.build four four two four ∷ []
+long = push c 5 ∷ Call.onPool pools.PoolCall.reset ∷ push ab 7 ∷ push b 3 ∷ push c 1 ∷ push [] 1 ∷ push ab 9 ∷ useCount ∷ Call.build four four two two ∷ Call.build four four two four ∷ []
 
 long-lent : AllLent (poolCalls long)
 unfolding poolCalls
 long-lent =
     (((omega arith, tt), omega arith), (tt, (((omega arith, (omega arith, tt)), omega arith), (((omega arith, tt), omega arith), (((omega arith, tt), omega arith), ((tt, omega arith), (((omega arith, (omega arith, tt)), omega arith), (tt, tt))))))))
 
-pub answers : runSays (resetPool poolA) long ≡ (0 ∷ []) ∷ (0 ∷ []) ∷ (0 ∷ []) ∷ (0 ∷ []) ∷ (4 ∷ []) ∷ (3 ∷ []) ∷ (0 ∷ []) ∷ (0 ∷ 3 ∷ []) ∷ (5 ∷ []) ∷ (0 ∷ 3 ∷ []) ∷ []
-unfolding mapRunSays insert compareKeys prefixes levels level deepest fitSays buffersFit
+pub answers : historySays (resetPool poolA) long ≡ (0 ∷ []) ∷ (0 ∷ []) ∷ (0 ∷ []) ∷ (0 ∷ []) ∷ (4 ∷ []) ∷ (3 ∷ []) ∷ (0 ∷ []) ∷ (0 ∷ 3 ∷ []) ∷ (5 ∷ []) ∷ (0 ∷ 3 ∷ []) ∷ []
+unfolding mapHistorySays insert compareKeys prefixes levels level deepest fitSays buffersFit
 answers = every-history poolA rootedA long long-lent .answers
 
 -- the pool holds A's map, and after the longer history "ab" with its last value; the keys rise, are nonempty and of bytes, and the values are of 32 bits
@@ -76,7 +76,7 @@ unfolding mapRun poolCalls insert compareKeys prefixes levels level deepest
 counts = ofA .counts
 
 -- some record has the path "a", and only one
-pub records : (r : ℕ) × InUse (poolAfter poolA callsA) r × (a ≡ spelling.pathOf (poolAfter poolA callsA) r)
+pub records : (r : ℕ) × InUse (poolAfter poolA callsA) r × (a ≡ spelling.recordPath (poolAfter poolA callsA) r)
 unfolding mapRun poolCalls insert compareKeys prefixes levels level deepest
 records = ofA .records a .0 (prefix .0)
 
@@ -84,7 +84,7 @@ pub recorded : In a (prefixes mapA)
 unfolding mapRun poolCalls insert compareKeys prefixes levels level deepest
 recorded = ofA .records a .1 records
 
-pub apart : (r s : ℕ) → InUse (poolAfter poolA callsA) r → InUse (poolAfter poolA callsA) s → spelling.pathOf (poolAfter poolA callsA) r ≡ a → spelling.pathOf (poolAfter poolA callsA) s ≡ a → r ≡ s
+pub apart : (r s : ℕ) → InUse (poolAfter poolA callsA) r → InUse (poolAfter poolA callsA) s → spelling.recordPath (poolAfter poolA callsA) r ≡ a → spelling.recordPath (poolAfter poolA callsA) s ≡ a → r ≡ s
 apart r s u v e f = ofA .apart r s u v (e ∙ sym f)
 
 -- "c" is refused for room, and "ab" is not
@@ -116,12 +116,12 @@ builds n e = let (many, left) = ofA .builds n four four two four e in (many, lef
 
 -- the first scratch entry is the number of the record at "a", which is node 2, and the last that of "ab", which is node 4
 pub scratch : InUse (poolAfter poolA callsA) (getD (buildScratch (poolAfter poolA callsA) four four two four) 0 0)
-    × (spelling.pathOf (poolAfter poolA callsA) (getD (buildScratch (poolAfter poolA callsA) four four two four) 0 0) ≡ a)
+    × (spelling.recordPath (poolAfter poolA callsA) (getD (buildScratch (poolAfter poolA callsA) four four two four) 0 0) ≡ a)
 unfolding mapRun poolCalls insert compareKeys prefixes levels level deepest pathOf nodes
 scratch = ofA .scratch 3 four four two four (needs .0) 0 (omega arith)
 
 pub scratch-last : InUse (poolAfter poolA callsA) (getD (buildScratch (poolAfter poolA callsA) four four two four) 2 0)
-    × (spelling.pathOf (poolAfter poolA callsA) (getD (buildScratch (poolAfter poolA callsA) four four two four) 2 0) ≡ ab)
+    × (spelling.recordPath (poolAfter poolA callsA) (getD (buildScratch (poolAfter poolA callsA) four four two four) 2 0) ≡ ab)
 unfolding mapRun poolCalls insert compareKeys prefixes levels level deepest pathOf nodes
 scratch-last = ofA .scratch 3 four four two four (needs .0) 2 (omega arith)
 

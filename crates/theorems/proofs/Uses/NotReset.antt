@@ -13,7 +13,7 @@ use Rattle.records.specs.Meaning.{siblingsFrom, forestBelow, poolForest, poolMa
 use Rattle.pool.specs.Reset.{resetPool}
 use Rattle.pool.specs.History.{runPool, mapRun, pushesOf}
 use Rattle.pool.specs.History as pools
-use Rattle.image.specs.History.{Call, poolCalls, runSays}
+use Rattle.image.specs.History.{Call, poolCalls, historySays}
 use Rattle.image.specs.Build.{buildSays}
 use Rattle.searches.specs.Exact.{exactSays}
 use Rattle.theorems.specs.Built.{builtImage}
@@ -42,7 +42,7 @@ pub holds : poolMap (refilled wordsA) ≡ mapA
 holds = ofA .holds ∙ wordsA-map
 
 -- a push, a use count and a build answer what they answer on the pool that was refilled
-pub answers : runSays wordsA (push c 1 ∷ useCount ∷ Call.build four four two four ∷ []) ≡ runSays (refilled wordsA) (push c 1 ∷ useCount ∷ Call.build four four two four ∷ [])
+pub answers : historySays wordsA (push c 1 ∷ useCount ∷ Call.build four four two four ∷ []) ≡ historySays (refilled wordsA) (push c 1 ∷ useCount ∷ Call.build four four two four ∷ [])
 unfolding poolCalls
 answers = ofA .answers (push c 1 ∷ useCount ∷ Call.build four four two four ∷ []) (((omega arith, tt), omega arith), (tt, tt))
 

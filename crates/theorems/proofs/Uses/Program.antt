@@ -17,7 +17,7 @@ use Rattle.lines.specs.Writing.{tabLine, tabText, mapText}
 use Rattle.lines.proofs.Worked.{ascii}
 use Rattle.catalogue.specs.Limits.{fileLimit, programCapacity}
 use Rattle.catalogue.specs.TextAnswers.{entriesIn, AllEntries, textMap}
-use Rattle.catalogue.specs.TextCases.{bad, empty, full, Whole, FirstRefusal}
+use Rattle.catalogue.specs.TextCases.{bad, emptyKey, noRoom, Whole, FirstRefusal}
 use Rattle.catalogue.specs.Program.{tooLongText, refusedText, programText}
 use Rattle.theorems.proofs.Program.{program-writes}
 use Rattle.theorems.proofs.Uses.Values.{a, ab, b}
@@ -76,7 +76,7 @@ stops-third = record {
   entries = (((a, 1), refl, cons-ne-nil 97 []), (((b, 2), refl, cons-ne-nil 98 []), tt));
   few = omega arith;
   number = 3;
-  cause = empty ([], 3) refl refl refl;
+  cause = emptyKey ([], 3) refl refl refl;
 }
 
 pub refused-empty : programText (some third) ≡ ascii "refused 3 line 3\n"
@@ -103,7 +103,7 @@ refused-full text before line after e short cut entries few read nonempty many =
       entries = entries;
       few = few;
       number = 4;
-      cause = full e read nonempty many refl;
+      cause = noRoom e read nonempty many refl;
     })
 
 pub unread : programText none ≡ ascii "no file\n"

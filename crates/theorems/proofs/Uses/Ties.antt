@@ -10,7 +10,7 @@ use Rattle.pool.specs.Answers.{saidPushed}
 use Rattle.pool.specs.Push.{pushSays, pushPool}
 use Rattle.pool.proofs.push.Kinds as push-kinds
 use Rattle.pool.proofs.push.Reads as push-reads
-use Rattle.image.specs.Meaning.{lent}
+use Rattle.image.specs.Meaning.{imageIn}
 use Rattle.places.specs.declared.answers.Place.{Place}
 use Rattle.places.specs.declared.answers.Followed.{Followed}
 use Rattle.searches.specs.Answers.{saidLooked}
@@ -31,7 +31,7 @@ push-c κs a r s p pool key =
 
 -- "ab" has 7 in A's image
 pub exact-match-ab : Tells 4 exact-match-kinds.ps exact-match-kinds.r exact-match-reads.Post (λ κs a r s.
-    lent (now (a .0)) (now (a .1 .0)) (now (a .1 .1 .0)) ≡ imageA → now (a .1 .1 .1 .0) ≡ ab → saidLooked r ≡ 0 ∷ 7 ∷ [])
+    imageIn (a .0) (a .1 .0) (a .1 .1 .0) ≡ imageA → now (a .1 .1 .1 .0) ≡ ab → saidLooked r ≡ 0 ∷ 7 ∷ [])
 unfolding lookup compareKeys
 exact-match-ab κs a r s p image query = exact-match-says κs a r s p ∙ (λ i. exactSays (image i) (query i)) ∙ onA .exact-match ab
 

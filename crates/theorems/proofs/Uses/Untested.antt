@@ -15,7 +15,7 @@ use Rattle.keymap.specs.Image.{Image, bitsFor}
 use Rattle.louds.specs.Rank.{gap}
 use Rattle.louds.specs.Select.{kth}
 use Rattle.louds.specs.Nodes.{orEnd, runFrom, childrenOf}
-use Rattle.image.specs.Accept.{entryOf, valueOf}
+use Rattle.image.specs.Accept.{nodeEntry, nodeValue}
 use Rattle.image.specs.AcceptTest.{lengthsFit}
 use Rattle.walks.specs.Rule.{matches, isChildBy, lowestBy, childBy, walkedFrom, valueOfNode, nodeBy, foundBy}
 use Rattle.searches.specs.Exact.{exactSays}
@@ -86,10 +86,10 @@ some-one m n e = cc
 none-some : (m : ℕ) → _≡_ {A = Option ℕ} none (some m) → ⊥
 none-some m e = Option·none-ne-some m e
 
-entry-met : (m : ℕ) → In m (2 ∷ 3 ∷ []) → entryOf imageA m ≡ entryOf other m
+entry-met : (m : ℕ) → In m (2 ∷ 3 ∷ []) → nodeEntry imageA m ≡ nodeEntry other m
 entry-met m n =
-    ⊎-elim (λ e. ap (entryOf imageA) e ∙ ap (entryOf other) (sym e))
-    (λ r. ⊎-elim (λ e. ap (entryOf imageA) e ∙ ap (entryOf other) (sym e)) (λ z. absurd (List·Memᴰ·not-nil z)) (List·Memᴰ·cases-cons r))
+    ⊎-elim (λ e. ap (nodeEntry imageA) e ∙ ap (nodeEntry other) (sym e))
+    (λ r. ⊎-elim (λ e. ap (nodeEntry imageA) e ∙ ap (nodeEntry other) (sym e)) (λ z. absurd (List·Memᴰ·not-nil z)) (List·Memᴰ·cases-cons r))
     (List·Memᴰ·cases-cons n)
 
 alike-b : Alike imageA other b
@@ -99,7 +99,7 @@ alike-b = record {
   lengths = refl;
   bits = same-bits;
   siblings = λ m n. entry-met m (subst (In m) (met-b .0) n);
-  value = λ m v f g. ap (valueOf other) (sym (some-one 3 m (sym (met-b .1) ∙ f))) ∙ some-one 3 v (sym (met-b .2) ∙ g);
+  value = λ m v f g. ap (nodeValue other) (sym (some-one 3 m (sym (met-b .1) ∙ f))) ∙ some-one 3 v (sym (met-b .2) ∙ g);
 }
 
 alike-a : Alike imageA other a

@@ -25,7 +25,7 @@ use Rattle.records.specs.Meaning.{siblingsFrom, forestBelow, poolForest, poolMa
 use Rattle.records.proofs.Laws.SoundTest.{test-sound}
 use Rattle.pool.specs.History as pools
 use Rattle.pool.specs.History.{AllLent, mapRun}
-use Rattle.image.specs.Accept.{Lent}
+use Rattle.image.specs.Accept.{LentSlices}
 use Rattle.image.specs.History.{Call, poolCalls}
 use Rattle.theorems.specs.Built.{mapAfter}
 
@@ -89,11 +89,11 @@ below-at n z [] h i = z
 below-at n z (x ∷ xs) h zero = ltb-true _ _ (and-eq-true-iff (ltb x n) (allBelow n xs) .0 h .0)
 below-at n z (x ∷ xs) h (suc i) = below-at n z xs (and-eq-true-iff (ltb x n) (allBelow n xs) .0 h .1) i
 
-pub lentA : Lent imageA
+pub lentA : LentSlices imageA
 unfolding allBelow
 lentA = record { words-wide = below-at (2 ^ wordBits) (omega arith) (45 ∷ []) refl; values-wide = below-at valueLimit (omega arith) (0 ∷ 3 ∷ 7 ∷ []) refl }
 
-pub damaged-lent : Lent damaged
+pub damaged-lent : LentSlices damaged
 unfolding allBelow
 damaged-lent = record { words-wide = below-at (2 ^ wordBits) (omega arith) (0 ∷ []) refl; values-wide = below-at valueLimit (omega arith) [] refl }
 
@@ -112,10 +112,10 @@ abbrev pub wordsA : Pool
 wordsA = 3 ∷ 0 ∷ 1 ∷ 0 ∷ 0 ∷ 97 ∷ 0 ∷ 2 ∷ 3 ∷ 0 ∷ 354 ∷ 7 ∷ 0 ∷ 0 ∷ 1 ∷ 354 ∷ 3 ∷ 0 ∷ 0 ∷ 0 ∷ []
 
 abbrev pub push : Key → ℕ → Call
-push k v = Call.onPool (pools.Call.push k v)
+push k v = Call.onPool (pools.PoolCall.push k v)
 
 abbrev pub useCount : Call
-useCount = Call.onPool pools.Call.useCount
+useCount = Call.onPool pools.PoolCall.useCount
 
 abbrev pub callsA : List Call
 callsA = push ab 7 ∷ push b 3 ∷ []

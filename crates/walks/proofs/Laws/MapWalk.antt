@@ -40,7 +40,7 @@ use Rattle.image.specs.Accept.{entries}
 use Rattle.image.specs.Meaning.{MapImage}
 use Rattle.walks.specs.Rule.{isChildBy, lowestBy, childBy, stepBy, walkedFrom, walked, valueOfNode, valueAtEnd, nodeBy, foundBy}
 use Rattle.walks.specs.MapNodes.{nodeAt}
-use Rattle.walks.proofs.Laws.Rule.{ChildBy, isChildBy-told, isChildBy-is, LowestTold, found, missed, lowest-told, childBy-run, walkedFrom-end, walkedFrom-step, valueOfNode-root, valueOfNode-plain, valueOfNode-held}
+use Rattle.walks.proofs.Laws.Rule.{FoundChild, isChildBy-told, isChildBy-is, LowestTold, found, missed, lowest-told, childBy-run, walkedFrom-end, walkedFrom-step, valueOfNode-root, valueOfNode-plain, valueOfNode-held}
 use Rattle.walks.proofs.Laws.MapImage.{length-nodes, length-values, entry-node, value-node, run-node}
 
 -- ---- the node at a path
@@ -79,7 +79,7 @@ module _ (i : Image) (h : MapImage i) where
     pub byte : ℕ
     pub inside : IsNode (imageMap i) (first + j)
     pub path : pathOf (imageMap i) (first + j) ≡ pathOf (imageMap i) k ++ (byte ∷ [])
-    pub child : ChildBy (i .labels) k (first + j) byte
+    pub child : FoundChild (i .labels) k (first + j) byte
 
   pub kid : (k : ℕ) → IsNode (imageMap i) k → (d : ChildrenOf (imageMap i) (h .catalogue) k) → (j : ℕ) → j < degree (imageMap i) (pathOf (imageMap i) k) → Kid k (d .first) j
   unfolding degree

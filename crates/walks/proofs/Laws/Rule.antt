@@ -79,39 +79,39 @@ module _ (ls : List ℕ) (k m a : ℕ) where
       isChildBy-entry h = rw (le-leb 2 m two, lt-ltb k m above, le-leb m (length ls + 1) h)
 
 -- what a child with a label is
-pub record ChildBy (ls : List ℕ) (k m a : ℕ) : Type 0 where
+pub record FoundChild (ls : List ℕ) (k m a : ℕ) : Type 0 where
   pub two : 2 ≤ m
   pub above : k < m
   pub within : m ≤ length ls + 1
   pub small : getD ls (m - 2) 0 < 2 * mark
   pub label : labelIn (getD ls (m - 2) 0) ≡ a
 
-pub isChildBy-told : (ls : List ℕ) (k m a : ℕ) → isChildBy ls k m a ≡ true → ChildBy ls k m a
+pub isChildBy-told : (ls : List ℕ) (k m a : ℕ) → isChildBy ls k m a ≡ true → FoundChild ls k m a
 isChildBy-told ls k m a e = root (decLe 2 m)
   where
     never : isChildBy ls k m a ≡ false → ⊥
     never f = true≢false (sym e ∙ f)
 
-    large : 2 ≤ m → k < m → m ≤ length ls + 1 → Dec (2 * mark ≤ getD ls (m - 2) 0) → ChildBy ls k m a
+    large : 2 ≤ m → k < m → m ≤ length ls + 1 → Dec (2 * mark ≤ getD ls (m - 2) 0) → FoundChild ls k m a
     large two above within (yes l) = absurd (never (isChildBy-entry ls k m a two above within ∙ matches-large _ a l))
     large two above within (no l) =
         let small : getD ls (m - 2) 0 < 2 * mark = lt-of-not-le l in
         let own : eqb (labelIn (getD ls (m - 2) 0)) a ≡ true = sym (isChildBy-entry ls k m a two above within ∙ matches-small _ a small) ∙ e in
         record { two = two; above = above; within = within; small = small; label = eqb-true _ _ own }
 
-    high : 2 ≤ m → k < m → Dec (m ≤ length ls + 1) → ChildBy ls k m a
+    high : 2 ≤ m → k < m → Dec (m ≤ length ls + 1) → FoundChild ls k m a
     high two above (yes l) = large two above l (decLe (2 * mark) (getD ls (m - 2) 0))
     high two above (no l) = absurd (never (isChildBy-high ls k m a two above (lt-of-not-le l)))
 
-    low : 2 ≤ m → Dec (m ≤ k) → ChildBy ls k m a
+    low : 2 ≤ m → Dec (m ≤ k) → FoundChild ls k m a
     low two (yes l) = absurd (never (isChildBy-low ls k m a two l))
     low two (no l) = high two (lt-of-not-le l) (decLe m (length ls + 1))
 
-    root : Dec (2 ≤ m) → ChildBy ls k m a
+    root : Dec (2 ≤ m) → FoundChild ls k m a
     root (yes l) = low l (decLe m k)
     root (no l) = absurd (never (isChildBy-root ls k m a (lt-of-not-le l)))
 
-pub isChildBy-is : (ls : List ℕ) (k m a : ℕ) → ChildBy ls k m a → isChildBy ls k m a ≡ true
+pub isChildBy-is : (ls : List ℕ) (k m a : ℕ) → FoundChild ls k m a → isChildBy ls k m a ≡ true
 isChildBy-is ls k m a c = isChildBy-entry ls k m a (c .two) (c .above) (c .within) ∙ matches-small _ a (c .small) ∙ eq-eqb _ _ (c .label)
 
 -- a number behind the last node's is no child's

@@ -13,7 +13,7 @@ use Rattle.keymap.specs.Image.{Image}
 use Rattle.keymap.specs.Buffers.{over}
 use Rattle.lines.specs.Writing.{tabText}
 use Rattle.keymap.specs.Decode.{imageMap}
-use Rattle.image.specs.Meaning.{lent}
+use Rattle.image.specs.Meaning.{asImage, imageIn}
 use Rattle.listings.specs.declared.answers.Stepped.{Stepped}
 use Rattle.listings.specs.declared.answers.Stepped.the-variants as stepped
 use Rattle.climbs.specs.declared.answers.Spelled.{Spelled}
@@ -24,18 +24,18 @@ use Rattle.listings.proofs.answers.Stepped as of-stepped
 use Rattle.climbs.proofs.answers.Spelled as of-spelled
 use Rattle.climbs.proofs.Laws.Spelling.{saidSpelled-one}
 use Rattle.catalogue.proofs.Laws.Next.{restOf}
-use Rattle.catalogue.proofs.Laws.Listing.{Listing, Turn, start-told, listing-starts, listing-within, listing-ends, listing-turn}
+use Rattle.catalogue.proofs.Laws.Listing.{Listed, Turn, start-told, listing-starts, listing-within, listing-ends, listing-turn}
 use Rattle.catalogue.proofs.listing.list_image.Statement.{statement}
 use Rattle.catalogue.proofs.listing.list_image.Tie as tie
 
 abbrev Inv-loop : tie.InvT-loop
-Inv-loop labels values words out₀ cursor₀ at₀ out cursor at = (length out ≡ length out₀) × Listing (lent labels values words) out₀ cursor at out
+Inv-loop labels values words out₀ cursor₀ at₀ out cursor at = (length out ≡ length out₀) × Listed (asImage labels values words) out₀ cursor at out
 
 abbrev μ-loop : tie.MeasureT-loop
-μ-loop labels values words out₀ cursor₀ at₀ out cursor at = length (restOf (imageMap (lent labels values words)) cursor)
+μ-loop labels values words out₀ cursor₀ at₀ out cursor at = length (restOf (imageMap (asImage labels values words)) cursor)
 
 abbrev imageAt : tie.Start Inv-loop μ-loop → Image
-imageAt start = lent (start .args .labels .now) (start .args .values .now) (start .args .words .now)
+imageAt start = imageIn (start .args .labels) (start .args .values) (start .args .words)
 
 -- the arm of the other cases is not that of the first
 other : OneOf (1 ∷ 2 ∷ 3 ∷ []) 0 → ⊥

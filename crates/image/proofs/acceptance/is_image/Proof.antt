@@ -7,14 +7,14 @@ use borrow.Author.Needs.{needs}
 use borrow.Author.Tests.{not-true, not-false}
 use Rattle.keymap.specs.Image.{Image}
 use Rattle.image.specs.AcceptTest.{lengthsFit}
-use Rattle.image.specs.Meaning.{lent}
+use Rattle.image.specs.Meaning.{imageIn}
 use Rattle.image.proofs.Laws.AcceptTest.{lengths-told, imageTest-unfit, imageTest-unused, imageTest-start, imageTest-pass}
 use Rattle.image.proofs.Laws.Ends.{first-bits, unused-bits}
 use Rattle.image.proofs.acceptance.is_image.Statement.{statement}
 use Rattle.image.proofs.acceptance.is_image.Tie as tie
 
 abbrev imageAt : tie.Start → Image
-imageAt start = lent (start .args .labels .now) (start .args .values .now) (start .args .words .now)
+imageAt start = imageIn (start .args .labels) (start .args .values) (start .args .words)
 
 lengths-fit-requires : tie.Need-lengths-fit-requires
 lengths-fit-requires c κs = search needs

@@ -1,7 +1,7 @@
 -- `image::acceptance::lengths_fit` meets its contract: each test is one of the definition's. Assumes nothing.
 use mathlib.Core.Path.{sym}
 use borrow.Author.Needs.{needs}
-use Rattle.image.specs.Meaning.{lent}
+use Rattle.image.specs.Meaning.{imageIn}
 use Rattle.image.proofs.Laws.AcceptTest.{lengthsFit-many, lengthsFit-values, lengthsFit-words}
 use Rattle.image.proofs.acceptance.lengths_fit.Statement.{statement}
 use Rattle.image.proofs.acceptance.lengths_fit.Tie as tie
@@ -9,12 +9,12 @@ use Rattle.image.proofs.acceptance.lengths_fit.Tie as tie
 returns : tie.Need-returns
 returns c =
     let a = c .before .args in
-    sym (lengthsFit-many (lent (a .labels .now) (a .values .now) (a .words .now)) (c .if1 .taken))
+    sym (lengthsFit-many (imageIn (a .labels) (a .values) (a .words)) (c .if1 .taken))
 
 returns-2 : tie.Need-returns-2
 returns-2 c =
     let a = c .before .before .args in
-    sym (lengthsFit-values (lent (a .labels .now) (a .values .now) (a .words .now)) (c .before .if1 .left) (c .if2 .taken))
+    sym (lengthsFit-values (imageIn (a .labels) (a .values) (a .words)) (c .before .if1 .left) (c .if2 .taken))
 
 mul-result : tie.Need-mul-result
 mul-result c = search needs
@@ -31,7 +31,7 @@ add-result-2 c = search needs
 returns-3 : tie.Need-returns-3
 returns-3 c =
     let a = c .before .before .args in
-    sym (lengthsFit-words (lent (a .labels .now) (a .values .now) (a .words .now)) (c .before .if1 .left) (c .if2 .left))
+    sym (lengthsFit-words (imageIn (a .labels) (a .values) (a .words)) (c .before .if1 .left) (c .if2 .left))
 
 pub lengths-fit-spec : {M : Type 1} → statement M
 lengths-fit-spec =

@@ -6,7 +6,7 @@ use borrow.Author.Needs.{needs}
 use borrow.Author.Tests.{not-true, not-false}
 use Rattle.keymap.specs.Image.{Image}
 use Rattle.image.specs.AcceptTest.{imageTest}
-use Rattle.image.specs.Meaning.{lent, MapImage}
+use Rattle.image.specs.Meaning.{imageIn, MapImage}
 use Rattle.image.proofs.Laws.Meaning.{tested-mapImage}
 use Rattle.listings.specs.declared.answers.Kind.the-variants.{Predictive}
 use Rattle.listings.specs.declared.answers.Cursor.{Cursor}
@@ -17,7 +17,7 @@ use Rattle.listings.proofs.cursors.predictive_search.Statement.{stateme
 use Rattle.listings.proofs.cursors.predictive_search.Tie as tie
 
 abbrev imageAt : tie.Start → Image
-imageAt start = lent (start .args .labels .now) (start .args .values .now) (start .args .words .now)
+imageAt start = imageIn (start .args .labels) (start .args .values) (start .args .words)
 
 is-image-requires : tie.Need-is-image-requires
 is-image-requires c κs = search needs

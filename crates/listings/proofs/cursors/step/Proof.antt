@@ -14,7 +14,7 @@ use Rattle.keymap.specs.Map.{Entry, Map}
 use Rattle.keymap.specs.Paths.{IsNode, pathOf}
 use Rattle.keymap.specs.Decode.{imageMap}
 use Rattle.image.specs.AcceptTest.{imageTest}
-use Rattle.image.specs.Meaning.{lent, MapImage}
+use Rattle.image.specs.Meaning.{imageIn, MapImage}
 use Rattle.image.proofs.Laws.Meaning.{tested-mapImage}
 use Rattle.climbs.specs.Order.{givenBy}
 use Rattle.listings.specs.declared.answers.Kind.{Kind}
@@ -29,7 +29,7 @@ use Rattle.listings.proofs.cursors.step.Statement.{statement}
 use Rattle.listings.proofs.cursors.step.Tie as tie
 
 abbrev imageAt : tie.Start → Image
-imageAt start = lent (start .args .labels .now) (start .args .values .now) (start .args .words .now)
+imageAt start = imageIn (start .args .labels) (start .args .values) (start .args .words)
 
 abbrev mapAt : tie.Start → Map
 mapAt start = imageMap (imageAt start)

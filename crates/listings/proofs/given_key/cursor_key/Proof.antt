@@ -11,11 +11,11 @@ use borrow.Author.Tests.{not-true, not-false}
 use Rattle.keymap.specs.Image.{Image}
 use Rattle.keymap.specs.Decode.{imageMap}
 use Rattle.image.specs.AcceptTest.{imageTest}
-use Rattle.image.specs.Meaning.{lent, MapImage}
+use Rattle.image.specs.Meaning.{imageIn, MapImage}
 use Rattle.image.proofs.Laws.Meaning.{tested-mapImage}
 use Rattle.listings.specs.declared.answers.Kind.{Kind}
 use Rattle.listings.specs.declared.answers.Cursor.the-variants.{Open}
-use Rattle.climbs.specs.Order.{Under}
+use Rattle.climbs.specs.Order.{UnderTop}
 use Rattle.climbs.proofs.Laws.Spelling.{spell-path}
 use Rattle.listings.specs.Cursors.{belongs}
 use Rattle.listings.specs.GivenKey.{givenKey}
@@ -26,7 +26,7 @@ use Rattle.listings.proofs.given_key.cursor_key.Statement.{statement}
 use Rattle.listings.proofs.given_key.cursor_key.Tie as tie
 
 abbrev imageAt : tie.Start → Image
-imageAt start = lent (start .args .labels .now) (start .args .values .now) (start .args .words .now)
+imageAt start = imageIn (start .args .labels) (start .args .values) (start .args .words)
 
 is-image-requires : tie.Need-is-image-requires
 is-image-requires c κs = search needs
@@ -104,7 +104,7 @@ belonging c =
     ∙ sym (c .before .stands .ensures)
     ∙ not-false _ (c .if3 .left)
 
-below : (c : tie.Else3) → Under (imageMap (imageAt (c .before .before .before .before .before .before .before .before .before .before .before .before))) (topAt (c .before .before .before)) (lastAt (c .before .before .before))
+below : (c : tie.Else3) → UnderTop (imageMap (imageAt (c .before .before .before .before .before .before .before .before .before .before .before .before))) (topAt (c .before .before .before)) (lastAt (c .before .before .before))
 below c = belongs-under _ _ _ _ (whole (c .before .before .before .before .before .before) .catalogue .rising) (belonging c) (omega arith)
 
 cast-given-len : tie.Need-cast-given-len

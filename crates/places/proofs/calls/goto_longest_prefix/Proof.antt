@@ -5,7 +5,7 @@ use Prim.Native.Nat.{ℕ, _<_, _^_}
 use mathlib.Core.List.{[], _∷_, List}
 use denote.Struct.Laws as LL
 use denote.Enum.Laws as EL
-use Rattle.image.specs.Meaning.{lent}
+use Rattle.image.specs.Meaning.{imageIn}
 use Rattle.places.specs.Incremental.{placeAt, GotoPromise}
 use Rattle.places.specs.declared.answers.Place.{Place}
 use Rattle.places.specs.declared.answers.GotoMove.{GotoMove}
@@ -43,7 +43,7 @@ module _ {M : Type 1} (𝓤 : URA M) (H : Heap 𝓤) (A : Atoms 𝓤) (W : Given
 
   -- what the callee says of an answer and a node, and the function of the answer and the place where it leaves it
   abbrev Said : GotoMove → Type 0
-  Said r = GotoPromise (lent (labels .now) (values .now) (words .now)) (placeAt (h .node)) (r .answer) (placeAt (r .node))
+  Said r = GotoPromise (imageIn labels values words) (placeAt (h .node)) (r .answer) (placeAt (r .node))
 
   abbrev Post : Val → SProp 𝓤
   Post = walkOf 𝓤 H A thin.ended stayed (thin.clauses 𝓤 H A at-mem run) .post (((κ0, (κ1, (κ2, (κ, tt)))), (q0, (q1, (q2, (q, tt)))), tt, x, vals), tt)

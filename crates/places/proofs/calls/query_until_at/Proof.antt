@@ -7,7 +7,7 @@ use Rattle.keymap.specs.Image.{Image}
 use Rattle.keymap.specs.Paths.{isNode}
 use Rattle.keymap.specs.Decode.{imageMap}
 use Rattle.image.specs.AcceptTest.{imageTest}
-use Rattle.image.specs.Meaning.{lent, MapImage}
+use Rattle.image.specs.Meaning.{imageIn, MapImage}
 use Rattle.image.proofs.Laws.Meaning.{tested-mapImage}
 use Rattle.walks.proofs.Laws.MapImage.{isNode-is}
 use Rattle.places.proofs.Laws.Incremental.{promise-refused, promise-strange, follow-promise}
@@ -16,7 +16,7 @@ use Rattle.places.proofs.calls.query_until_at.Statement.{statement}
 use Rattle.places.proofs.calls.query_until_at.Tie as tie
 
 abbrev imageAt : tie.Start → Image
-imageAt start = lent (start .args .labels .now) (start .args .values .now) (start .args .words .now)
+imageAt start = imageIn (start .args .labels) (start .args .values) (start .args .words)
 
 is-image-requires : tie.Need-is-image-requires
 is-image-requires c κs = search needs

@@ -3,7 +3,7 @@ use mathlib.Core.Path.{_≡_, sym, ap, _∙_}
 use native.Mathlib.Omega.{arith}
 use borrow.Author.Needs.{needs}
 use Rattle.keymap.specs.Image.{Image}
-use Rattle.image.specs.Meaning.{lent}
+use Rattle.image.specs.Meaning.{imageIn}
 use Rattle.walks.specs.declared.stands.Children.{Children}
 use Rattle.walks.proofs.Laws.Stands.{heldOf-value, heldOf-none}
 use Rattle.places.specs.Moves.{countFrom}
@@ -12,7 +12,7 @@ use Rattle.places.proofs.moves.answer_at.Statement.{statement}
 use Rattle.places.proofs.moves.answer_at.Tie as tie
 
 abbrev imageAt : tie.Start → Image
-imageAt start = lent (start .args .labels .now) (start .args .values .now) (start .args .words .now)
+imageAt start = imageIn (start .args .labels) (start .args .values) (start .args .words)
 
 mul-len : tie.Need-mul-len
 mul-len c = search needs

@@ -11,7 +11,7 @@ use Rattle.keymap.specs.Key.{Key}
 use Rattle.keymap.specs.Bits.{bit}
 use Rattle.keymap.specs.Image.{Image, bitsFor}
 use Rattle.keymap.proofs.Laws.Bits.{bit-small}
-use Rattle.image.specs.Meaning.{lent}
+use Rattle.image.specs.Meaning.{asImage, imageIn}
 use Rattle.walks.specs.declared.stands.Stand.{Stand}
 use Rattle.walks.specs.declared.moves.Reached.{Reached}
 use Rattle.walks.specs.Rule.{childBy}
@@ -26,14 +26,14 @@ use Rattle.places.proofs.moves.follow.Tie as tie
 abbrev Inv-loop : tie.InvT-loop
 Inv-loop labels values words node query len s₀ j₀ s j =
     (j ≤ length query)
-    × (s ≡ standIn (lent labels values words) (s .node))
-    × (followBy (lent labels values words) node query ≡ followFrom (lent labels values words) (drop j query) j (s .node))
+    × (s ≡ standIn (asImage labels values words) (s .node))
+    × (followBy (asImage labels values words) node query ≡ followFrom (asImage labels values words) (drop j query) j (s .node))
 
 abbrev μ-loop : tie.MeasureT-loop
 μ-loop labels values words node query len s₀ j₀ s j = length query - j
 
 abbrev imageAt : tie.Start Inv-loop μ-loop → Image
-imageAt start = lent (start .args .labels .now) (start .args .values .now) (start .args .words .now)
+imageAt start = imageIn (start .args .labels) (start .args .values) (start .args .words)
 
 mul-len : tie.Need-mul-len Inv-loop μ-loop
 mul-len c = search needs

@@ -5,7 +5,7 @@ use lib.ListN.{length}
 use borrow.Author.Needs.{needs}
 use Rattle.keymap.specs.Bits.{bit}
 use Rattle.keymap.specs.Image.{Image, bitsFor}
-use Rattle.image.specs.Meaning.{lent}
+use Rattle.image.specs.Meaning.{imageIn}
 use Rattle.walks.specs.declared.stands.Stand.{Stand}
 use Rattle.walks.specs.declared.stands.Children.{Children}
 use Rattle.walks.specs.declared.glide.Glided.{Glided}
@@ -18,7 +18,7 @@ use Rattle.places.proofs.moves.go_down.Statement.{statement}
 use Rattle.places.proofs.moves.go_down.Tie as tie
 
 abbrev imageAt : tie.Start → Image
-imageAt start = lent (start .args .labels .now) (start .args .values .now) (start .args .words .now)
+imageAt start = imageIn (start .args .labels) (start .args .values) (start .args .words)
 
 abbrev kidsAt : tie.Start → Children
 kidsAt start = kidsFrom (bit (start .args .words .now)) (bitsFor (length (start .args .labels .now))) (standIn (imageAt start) (start .args .node))

@@ -5,7 +5,7 @@ use borrow.Author.Needs.{needs}
 use Rattle.keymap.specs.Bits.{bit}
 use Rattle.keymap.specs.Image.{Image, bitsFor}
 use Rattle.keymap.proofs.Laws.Bits.{bit-small}
-use Rattle.image.specs.Meaning.{lent}
+use Rattle.image.specs.Meaning.{imageIn}
 use Rattle.walks.specs.declared.stands.Stand.{Stand}
 use Rattle.walks.specs.declared.moves.Reached.{Reached}
 use Rattle.walks.specs.Rule.{childBy}
@@ -18,7 +18,7 @@ use Rattle.places.proofs.moves.step_by.Statement.{statement}
 use Rattle.places.proofs.moves.step_by.Tie as tie
 
 abbrev imageAt : tie.Start → Image
-imageAt start = lent (start .args .labels .now) (start .args .values .now) (start .args .words .now)
+imageAt start = imageIn (start .args .labels) (start .args .values) (start .args .words)
 
 mul-len : tie.Need-mul-len
 mul-len c = search needs

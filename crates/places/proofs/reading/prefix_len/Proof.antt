@@ -9,7 +9,7 @@ use Rattle.keymap.specs.Paths.{isNode}
 use Rattle.keymap.specs.Decode.{imageMap}
 use Rattle.keymap.proofs.Laws.Paths.{isNode-iff}
 use Rattle.image.specs.AcceptTest.{imageTest}
-use Rattle.image.specs.Meaning.{lent, MapImage}
+use Rattle.image.specs.Meaning.{imageIn, MapImage}
 use Rattle.image.proofs.Laws.Meaning.{tested-mapImage}
 use Rattle.walks.proofs.Laws.MapImage.{isNode-is}
 use Rattle.climbs.proofs.Laws.MapClimb.{depth-path}
@@ -18,7 +18,7 @@ use Rattle.places.proofs.reading.prefix_len.Statement.{statement}
 use Rattle.places.proofs.reading.prefix_len.Tie as tie
 
 abbrev imageAt : tie.Start → Image
-imageAt start = lent (start .args .labels .now) (start .args .values .now) (start .args .words .now)
+imageAt start = imageIn (start .args .labels) (start .args .values) (start .args .words)
 
 is-image-requires : tie.Need-is-image-requires
 is-image-requires c κs = search needs

@@ -6,14 +6,14 @@ use lib.ListN.{length, take}
 use lib.Seq.{length-take-le}
 use borrow.Author.Needs.{needs}
 use Rattle.keymap.specs.Image.{Image}
-use Rattle.image.specs.Meaning.{lent}
+use Rattle.image.specs.Meaning.{imageIn}
 use Rattle.searches.specs.CommonPrefixes.{commonPart}
 use Rattle.searches.proofs.Laws.CommonPrefixes.{part-is}
 use Rattle.searches.proofs.common_prefixes.common_prefix_part.Statement.{statement}
 use Rattle.searches.proofs.common_prefixes.common_prefix_part.Tie as tie
 
 abbrev imageAt : tie.Start → Image
-imageAt start = lent (start .args .labels .now) (start .args .values .now) (start .args .words .now)
+imageAt start = imageIn (start .args .labels) (start .args .values) (start .args .words)
 
 common-prefix-requires : tie.Need-common-prefix-requires
 common-prefix-requires c κs = search needs

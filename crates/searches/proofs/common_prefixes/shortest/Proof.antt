@@ -10,7 +10,7 @@ use borrow.Author.Needs.{needs}
 use Rattle.keymap.specs.Bits.{bit}
 use Rattle.keymap.specs.Image.{Image, bitsFor}
 use Rattle.keymap.proofs.Laws.Bits.{bit-small}
-use Rattle.image.specs.Meaning.{lent}
+use Rattle.image.specs.Meaning.{asImage, imageIn}
 use Rattle.walks.specs.declared.stands.Stand.{Stand}
 use Rattle.walks.specs.declared.moves.Reached.{Reached}
 use Rattle.walks.specs.Rule.{childBy, valueOfNode}
@@ -25,13 +25,13 @@ abbrev Inv-loop : tie.InvT-loop
 Inv-loop labels values words query seen len s₀ depth₀ s depth =
     (depth ≤ length query)
     × (s ≡ standAt (bit words) (bitsFor (length labels)) (s .node))
-    × (shortestFrom (lent labels values words) seen query 0 (some 1) ≡ shortestFrom (lent labels values words) seen (drop depth query) depth (some (s .node)))
+    × (shortestFrom (asImage labels values words) seen query 0 (some 1) ≡ shortestFrom (asImage labels values words) seen (drop depth query) depth (some (s .node)))
 
 abbrev μ-loop : tie.MeasureT-loop
 μ-loop labels values words query seen len s₀ depth₀ s depth = length query - depth
 
 abbrev imageAt : tie.Start Inv-loop μ-loop → Image
-imageAt start = lent (start .args .labels .now) (start .args .values .now) (start .args .words .now)
+imageAt start = imageIn (start .args .labels) (start .args .values) (start .args .words)
 
 mul-len : tie.Need-mul-len Inv-loop μ-loop
 mul-len c = search needs

@@ -2,7 +2,7 @@
 use mathlib.Core.Path.{sym, _∙_}
 use borrow.Author.Needs.{needs}
 use Rattle.keymap.specs.Image.{Image}
-use Rattle.image.specs.Meaning.{lent}
+use Rattle.image.specs.Meaning.{imageIn}
 use Rattle.walks.specs.Rule.{valueOfNode, nodeBy}
 use Rattle.walks.proofs.Laws.Stands.{childOf-node, childOf-absent, heldOf-value, heldOf-none}
 use Rattle.searches.proofs.Laws.Exact.{keyedIn-lost, keyedIn-plain, keyedIn-held}
@@ -10,7 +10,7 @@ use Rattle.searches.proofs.exact.find.Statement.{statement}
 use Rattle.searches.proofs.exact.find.Tie as tie
 
 abbrev imageAt : tie.Start → Image
-imageAt start = lent (start .args .labels .now) (start .args .values .now) (start .args .words .now)
+imageAt start = imageIn (start .args .labels) (start .args .values) (start .args .words)
 
 mul-len : tie.Need-mul-len
 mul-len c = search needs

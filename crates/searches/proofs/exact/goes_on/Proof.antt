@@ -6,7 +6,7 @@ use lib.Dec.{ltb}
 use lib.ListN.{length}
 use Rattle.keymap.specs.Bits.{bit}
 use Rattle.keymap.specs.Image.{Image, bitsFor}
-use Rattle.image.specs.Meaning.{lent}
+use Rattle.image.specs.Meaning.{asImage}
 use Rattle.walks.specs.declared.stands.Children.{Children}
 use Rattle.walks.specs.Stands.{kidsFrom}
 use Rattle.walks.proofs.Laws.Stands.{reachedAt-to, reachedAt-lost}
@@ -15,7 +15,7 @@ use Rattle.searches.proofs.exact.goes_on.Statement.{statement}
 use Rattle.searches.proofs.exact.goes_on.Tie as tie
 
 abbrev imageAt : tie.Start → Image
-imageAt start = lent (start .args .labels .now) [] (start .args .words .now)
+imageAt start = asImage (start .args .labels .now) [] (start .args .words .now)
 
 mul-len : tie.Need-mul-len
 mul-len c = search needs

@@ -5,7 +5,7 @@ use borrow.Author.Needs.{needs}
 use borrow.Author.Tests.{not-true, not-false}
 use Rattle.keymap.specs.Image.{Image}
 use Rattle.image.specs.AcceptTest.{imageTest}
-use Rattle.image.specs.Meaning.{lent, MapImage}
+use Rattle.image.specs.Meaning.{imageIn, MapImage}
 use Rattle.image.proofs.Laws.Meaning.{tested-mapImage}
 use Rattle.keymap.specs.Answers.{saysFlag}
 use Rattle.searches.proofs.Laws.Exact.{goes-rule, isPrefixSays-refused, isPrefixSays-accepted}
@@ -13,7 +13,7 @@ use Rattle.searches.proofs.exact.is_prefix.Statement.{statement}
 use Rattle.searches.proofs.exact.is_prefix.Tie as tie
 
 abbrev imageAt : tie.Start → Image
-imageAt start = lent (start .args .labels .now) (start .args .values .now) (start .args .words .now)
+imageAt start = imageIn (start .args .labels) (start .args .values) (start .args .words)
 
 is-image-requires : tie.Need-is-image-requires
 is-image-requires c κs = search needs

@@ -12,7 +12,7 @@ use Rattle.keymap.specs.Bits.{bit}
 use Rattle.keymap.specs.Image.{Image, bitsFor}
 use Rattle.image.specs.Accept.{entries}
 use Rattle.image.specs.AcceptTest.{imageTest}
-use Rattle.image.specs.Meaning.{lent, MapImage}
+use Rattle.image.specs.Meaning.{imageIn, MapImage}
 use Rattle.image.proofs.Laws.Meaning.{tested-mapImage}
 use Rattle.walks.specs.Rule.{nodeBy}
 use Rattle.walks.proofs.Laws.Stands.{ReachedTold, reachedAt-to, reachedAt-lost}
@@ -22,7 +22,7 @@ use Rattle.searches.proofs.prefix.longest_prefix.Statement.{statement}
 use Rattle.searches.proofs.prefix.longest_prefix.Tie as tie
 
 abbrev imageAt : tie.Start → Image
-imageAt start = lent (start .args .labels .now) (start .args .values .now) (start .args .words .now)
+imageAt start = imageIn (start .args .labels) (start .args .values) (start .args .words)
 
 is-image-requires : tie.Need-is-image-requires
 is-image-requires c κs = search needs

@@ -6,14 +6,14 @@ use borrow.Author.Tests.{not-true, not-false}
 use Rattle.keymap.specs.Image.{Image}
 use Rattle.keymap.specs.Answers.{saysValue}
 use Rattle.image.specs.AcceptTest.{lengthsFit}
-use Rattle.image.specs.Meaning.{lent}
+use Rattle.image.specs.Meaning.{imageIn}
 use Rattle.searches.proofs.Laws.Exact.{keyed-found, keyed-missed}
 use Rattle.searches.proofs.Laws.Untested.{untestedSays-refused, untestedSays-found}
 use Rattle.searches.proofs.untested.exact_match_untested.Statement.{statement}
 use Rattle.searches.proofs.untested.exact_match_untested.Tie as tie
 
 abbrev imageAt : tie.Start → Image
-imageAt start = lent (start .args .labels .now) (start .args .values .now) (start .args .words .now)
+imageAt start = imageIn (start .args .labels) (start .args .values) (start .args .words)
 
 lengths-fit-requires : tie.Need-lengths-fit-requires
 lengths-fit-requires c κs = search needs

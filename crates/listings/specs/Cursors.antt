@@ -10,7 +10,7 @@
 -- Assumes nothing.
 use Prim.Native.Nat.{ℕ, zero, suc}
 use mathlib.Core.Bool.{Bool, true, cond, _&&_}
-use mathlib.Core.List.{List, [], _∷_, head?}
+use mathlib.Core.List.{List, _∷_, head?}
 use mathlib.Core.Option.{Option, none, some}
 use Rattle.keymap.specs.Key.{Key}
 use Rattle.keymap.specs.Answers.{given}

@@ -3,7 +3,7 @@
 -- Assumes nothing.
 use Prim.Native.Nat.{ℕ}
 use mathlib.Core.Bool.{cond}
-use mathlib.Core.List.{List, [], _∷_}
+use mathlib.Core.List.{List}
 use Rattle.keymap.specs.Key.{Key}
 use Rattle.keymap.specs.Refusals.{refuses, NotAnImage}
 use Rattle.keymap.specs.Answers.{saysValue}

@@ -35,7 +35,7 @@ use Rattle.pool.proofs.Laws.History.{call-says, reset-run-sound, reset-run-map,
 use Rattle.image.specs.History.{Call, poolCalls}
 use Rattle.image.specs.Build.{fitSays, buildSays, buildScratch}
 use Rattle.image.proofs.Laws.LevelPaths.{scratch-node}
-use Rattle.image.proofs.Laws.History.{build-says, reset-run-says}
+use Rattle.image.proofs.Laws.History.{build-says, reset-history-says}
 use Rattle.theorems.specs.Built.{poolAfter, mapAfter, builtImage}
 use Rattle.theorems.specs.Demand3.{Exceeds, EveryHistory, MapAlone}
 use Rattle.theorems.proofs.Built.{run-capacity, built-image}
@@ -107,7 +107,7 @@ pub every-history : EveryHistory
 every-history p h cs lent =
     record {
       resets = sym (reset-done p h .0);
-      answers = reset-run-says p h cs lent;
+      answers = reset-history-says p h cs lent;
       holds = holds p h cs lent;
       catalogue = catalogue p h cs lent;
       prefix = prefixes-iff (mapAfter p cs);

@@ -16,7 +16,7 @@ use Rattle.pool.proofs.Laws.Reset.{reset-sound, length-reset}
 use Rattle.pool.proofs.Laws.History.{run-sound, run-map, run-within, refill-says, refill-map}
 use Rattle.image.specs.History.{Call, poolCalls, historySays, mapHistorySays}
 use Rattle.image.specs.Build.{buildSays}
-use Rattle.image.proofs.Laws.History.{run-says}
+use Rattle.image.proofs.Laws.History.{history-says}
 use Rattle.theorems.specs.Built.{builtImage}
 use Rattle.theorems.specs.Demand2.{Demand2}
 use Rattle.theorems.specs.NotReset.{refilled, EverySound}
@@ -39,7 +39,7 @@ module _ (p : Pool) (s : Sound p) (bounded : Bounded p) where
       let same : capacity (refilled p) ≡ capacity p = run-capacity (pushesOf (poolMap p)) (resetPool p) start pushes ∙ long in
       let holds = refill-map p s bounded in
       let told : mapHistorySays (capacity (refilled p)) (poolMap (refilled p)) cs ≡ mapHistorySays (capacity p) (poolMap p) cs = λ i. mapHistorySays (same i) (holds i) cs in
-      run-says cs p s lent ∙ sym (run-says cs (refilled p) (run-sound (pushesOf (poolMap p)) (resetPool p) start pushes) lent ∙ told)
+      history-says cs p s lent ∙ sym (history-says cs (refilled p) (run-sound (pushesOf (poolMap p)) (resetPool p) start pushes) lent ∙ told)
 
   searches : (cs : List Call) → AllLent (poolCalls cs) → (n : ℕ) (ls vs ws qs : List ℕ) → buildSays (runPool p (poolCalls cs)) ls vs ws qs ≡ 0 ∷ n ∷ []
       → Demand2 (mapRun (capacity p) (poolMap p) (poolCalls cs)) (builtImage n (runPool p (poolCalls cs)) ls vs ws qs)

@@ -5,7 +5,6 @@
 use mathlib.Core.Path.{_≡_}
 use mathlib.Core.Logic.{_↔_}
 use Prim.Native.Nat.{_≤_}
-use mathlib.Core.List.{[], _∷_}
 use lib.ListN.{length}
 use Rattle.keymap.specs.Key.{Key}
 use Rattle.keymap.specs.Limits.{mostRecords}

@@ -1,8 +1,8 @@
 -- Laws of histories with builds. What a build says and writes is told by the map that the pool holds, and that map is told by the other calls.
 --
 --     build-says          what a build of a sound pool says, by the map
---     run-says            any calls on a sound pool answer what the map tells
---     reset-run-says      so do any calls after an accepted reset, by the keys accepted since the last reset
+--     history-says            any calls on a sound pool answer what the map tells
+--     reset-history-says      so do any calls after an accepted reset, by the keys accepted since the last reset
 --     reset-run-build     an accepted build after any such calls writes the image of the map of those keys
 -- Assumes nothing.
 use Prim.Native.Nat.{ℕ, _≤_}
@@ -36,26 +36,26 @@ pub build-says : (p : Pool) → Sound p → (ls vs ws qs : List ℕ) → buildSa
 build-says p s ls vs ws qs =
     says-sound p ls vs ws qs s ∙ ap (λ (n : ℕ). fitSays n (length ls) (length vs) (length ws) (length qs)) (sym (count-prefixes p s))
 
-pub run-says : (cs : List Call) (p : Pool) → Sound p → AllLent (poolCalls cs) → historySays p cs ≡ mapHistorySays (capacity p) (poolMap p) cs
+pub history-says : (cs : List Call) (p : Pool) → Sound p → AllLent (poolCalls cs) → historySays p cs ≡ mapHistorySays (capacity p) (poolMap p) cs
 unfolding historySays mapHistorySays poolCalls
-run-says [] p s l = refl
-run-says (Call.onPool c ∷ cs) p s l =
+history-says [] p s l = refl
+history-says (Call.onPool c ∷ cs) p s l =
     let first = call-says p s c in
-    let rest = run-says cs _ (call-sound p s c (l .0)) (l .1) in
+    let rest = history-says cs _ (call-sound p s c (l .0)) (l .1) in
     let m = call-map p s c (l .0) in
     let n = call-capacity p s c (l .0) in
     λ i. first i ∷ (rest ∙ (λ j. mapHistorySays (n j) (m j) cs)) i
-run-says (Call.build ls vs ws qs ∷ cs) p s l =
+history-says (Call.build ls vs ws qs ∷ cs) p s l =
     let first = build-says p s ls vs ws qs in
-    let rest = run-says cs p s l in
+    let rest = history-says cs p s l in
     λ i. first i ∷ rest i
 
 module _ (p : Pool) (h : recordWords ≤ length p) (cs : List Call) (lent : AllLent (poolCalls cs)) where
-  pub reset-run-says : historySays (resetPool p) cs ≡ mapHistorySays (capacity p) [] cs
-  reset-run-says =
+  pub reset-history-says : historySays (resetPool p) cs ≡ mapHistorySays (capacity p) [] cs
+  reset-history-says =
       let e : capacity (resetPool p) ≡ capacity p = rw (length-reset p) in
       let m = reset-means-empty p h in
-      run-says cs (resetPool p) (reset-sound p h) lent ∙ (λ i. mapHistorySays (e i) (m i) cs)
+      history-says cs (resetPool p) (reset-sound p h) lent ∙ (λ i. mapHistorySays (e i) (m i) cs)
 
   pub reset-run-build : (ls vs ws qs : List ℕ) → accepted (buildSays (runPool (resetPool p) (poolCalls cs)) ls vs ws qs) ≡ true
       → Shows (image (mapRun (capacity p) [] (poolCalls cs))) (runPool (resetPool p) (poolCalls cs)) ls vs ws qs

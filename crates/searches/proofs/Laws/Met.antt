@@ -30,7 +30,7 @@ use Rattle.louds.specs.declared.Kids.{Kids}
 use Rattle.louds.specs.declared.Kids.the-variants.{Run, NoNode}
 use Rattle.louds.specs.Nodes.{childrenOf}
 use Rattle.louds.proofs.Laws.Nodes.{children-agree}
-use Rattle.image.specs.Accept.{entries, nodeEntry, nodeValue}
+use Rattle.image.specs.Accept.{entries, nodeEntry}
 use Rattle.image.specs.AcceptTest.{lengthsFit}
 use Rattle.image.proofs.Laws.AcceptTest.{lengths-told}
 use Rattle.walks.specs.Rule.{counts, matches, isChildBy, lowestBy, childBy, stepBy, walkedFrom, walked, valueOfNode, valueAtEnd, nodeBy}

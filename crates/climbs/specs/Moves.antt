@@ -12,8 +12,8 @@ use Prim.Native.Nat.{ℕ, zero, suc, _+_, _-_}
 use mathlib.Core.Bool.{Bool, cond, _&&_}
 use mathlib.Core.Option.{Option, none, some}
 use lib.Dec.{eqb, ltb, leb}
-use Rattle.louds.specs.declared.Spot.{Spot}
-use Rattle.louds.specs.declared.Spot.the-variants.{At, Missing}
+use Rattle.louds.specs.declared.answers.Spot.{Spot}
+use Rattle.louds.specs.declared.answers.Spot.the-variants.{At, Missing}
 use Rattle.louds.specs.Select.{zeroFrom}
 use Rattle.walks.specs.Rule.{countsTo}
 use Rattle.climbs.specs.declared.perches.Perch.{Perch}

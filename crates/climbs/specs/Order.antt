@@ -19,10 +19,10 @@ use lib.Dec.{eqb, ltb}
 use Rattle.keymap.specs.Key.{PrefixOf}
 use Rattle.keymap.specs.Map.{Entry, Map}
 use Rattle.keymap.specs.Paths.{IsNode, pathOf, nodeOf}
-use Rattle.louds.specs.declared.Spot.{Spot}
-use Rattle.louds.specs.declared.Spot.the-variants.{At, Missing}
-use Rattle.louds.specs.declared.Kids.{Kids}
-use Rattle.louds.specs.declared.Kids.the-variants.{Run, NoNode}
+use Rattle.louds.specs.declared.answers.Spot.{Spot}
+use Rattle.louds.specs.declared.answers.Spot.the-variants.{At, Missing}
+use Rattle.louds.specs.declared.answers.Children.{Children}
+use Rattle.louds.specs.declared.answers.Children.the-variants.{Run, NoNode}
 use Rattle.louds.specs.Select.{oneAt}
 use Rattle.louds.specs.Nodes.{childrenOf}
 use Rattle.walks.specs.Rule.{countsTo, valueOfNode}
@@ -35,7 +35,7 @@ abbrev pub orElse : {A : Type 0} → Option A → Option A → Option A
 orElse (some k) o = some k
 orElse none o = o
 
-abbrev pub firstOf : ℕ → ℕ → Kids → Option ℕ
+abbrev pub firstOf : ℕ → ℕ → Children → Option ℕ
 firstOf last k NoNode = none
 firstOf last k (Run first count) = cond (ltb 0 count && countsTo last k first) (some first) none
 

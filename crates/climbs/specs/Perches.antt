@@ -11,8 +11,8 @@ use Prim.Native.Nat.{ℕ, zero, suc, _-_}
 use mathlib.Core.Bool.{Bool, cond, _&&_}
 use mathlib.Core.Option.{Option, none, some}
 use lib.Dec.{ltb, leb}
-use Rattle.louds.specs.declared.Up.{Up}
-use Rattle.louds.specs.declared.Up.the-variants.{Node, NoOne}
+use Rattle.louds.specs.declared.answers.Up.{Up}
+use Rattle.louds.specs.declared.answers.Up.the-variants.{Node, NoOne}
 use Rattle.louds.specs.Select.{oneAt, oneBack}
 use Rattle.louds.specs.Nodes.{orEnd, parentOf}
 use Rattle.climbs.specs.declared.perches.Perch.{Perch}

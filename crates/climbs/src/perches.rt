@@ -3,8 +3,9 @@
 ghost use mathlib.Core.Path.{_≡_};
 ghost use Rattle.keymap.specs.Bits.{bit};
 ghost use Rattle.climbs.specs.Perches.{perchAt, hasParent, parentFrom, depthBy};
-use louds::one_at;
+use louds::Up;
 use louds::one_back;
+use louds::parent;
 use walks::stands::or_end;
 
 // A node with the place of its one.
@@ -24,10 +25,13 @@ pub enum Rise {
 pub fn perch_at(words: &[u64], len: usize, node: usize) -> Perch
     ensures { λ r. ⌜ r ≡ perchAt (bit (now (words .entry))) len node ⌝ }
 {
-    let spot = one_at(words, len, node);
+    let Up::Node(up) = parent(words, len, node) else {
+        return Perch { node, one: len };
+    };
+    // before it stand the ones of the nodes before, and as many zeros as its parent's number says
     Perch {
         node,
-        one: or_end(spot, len),
+        one: up + (node - 1),
     }
 }
 

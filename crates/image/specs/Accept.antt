@@ -18,10 +18,10 @@ use Rattle.keymap.specs.Prefixes.{prefixes}
 use Rattle.keymap.specs.Label.{mark, labelIn}
 use Rattle.keymap.specs.Bits.{bit, wordsFor}
 use Rattle.keymap.specs.Image.{Image, bitsFor, image}
-use Rattle.louds.specs.declared.Kids.{Kids}
-use Rattle.louds.specs.declared.Kids.the-variants.{Run}
-use Rattle.louds.specs.declared.Up.{Up}
-use Rattle.louds.specs.declared.Up.the-variants.{Node}
+use Rattle.louds.specs.declared.answers.Children.{Children}
+use Rattle.louds.specs.declared.answers.Children.the-variants.{Run}
+use Rattle.louds.specs.declared.answers.Up.{Up}
+use Rattle.louds.specs.declared.answers.Up.the-variants.{Node}
 use Rattle.louds.specs.Rank.{onesBefore, zerosBefore}
 use Rattle.louds.specs.Nodes.{childrenOf, parentOf}
 
@@ -37,7 +37,7 @@ nodeValue i m = getD (i .values) (m - 2) 0
 abbrev pub parentIn : Image → ℕ → Up
 parentIn i m = parentOf (bit (i .words)) (bitsFor (entries i)) m
 
-abbrev pub kidsIn : Image → ℕ → Kids
+abbrev pub kidsIn : Image → ℕ → Children
 kidsIn i m = childrenOf (bit (i .words)) (bitsFor (entries i)) m
 
 -- "its parent's number from 1 to m-1"

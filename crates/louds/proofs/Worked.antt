@@ -8,19 +8,19 @@ use mathlib.Core.List.{List, [], _∷_, map}
 use Prim.Native.Nat.{ℕ}
 use lib.Count.{trailingZeros}
 use Rattle.keymap.specs.Bits.{bit, sumBelow}
-use Rattle.louds.specs.declared.Spot.{Spot}
-use Rattle.louds.specs.declared.Spot.the-variants.{At, Missing}
-use Rattle.louds.specs.declared.Kids.{Kids}
-use Rattle.louds.specs.declared.Kids.the-variants.{Run, NoNode}
-use Rattle.louds.specs.declared.Up.{Up}
-use Rattle.louds.specs.declared.Up.the-variants.{Node, NoOne}
+use Rattle.louds.specs.declared.answers.Spot.{Spot}
+use Rattle.louds.specs.declared.answers.Spot.the-variants.{At, Missing}
+use Rattle.louds.specs.declared.answers.Children.{Children}
+use Rattle.louds.specs.declared.answers.Children.the-variants.{Run, NoNode}
+use Rattle.louds.specs.declared.answers.Up.{Up}
+use Rattle.louds.specs.declared.answers.Up.the-variants.{Node, NoOne}
 use Rattle.louds.specs.Rank.{gap}
 use Rattle.louds.specs.Select.{kth, onward, zeroAt, zeroFrom, oneAt, oneBack}
 use Rattle.louds.specs.Taking.{cleared, onesFrom}
 use Rattle.louds.specs.Nodes.{orEnd, runFrom, childrenOf, upFrom, parentOf}
 
 abbrev Row : Type 0
-Row = ℕ × Kids × Up
+Row = ℕ × Children × Up
 
 -- what the bits of some words say of the numbers that a table has
 abbrev answers : List ℕ → ℕ → List Row → List Row

@@ -5,12 +5,12 @@
 --     parentOf      the number of its parent
 -- Assumes nothing.
 use Prim.Native.Nat.{ℕ, _+_, _-_}
-use Rattle.louds.specs.declared.Spot.{Spot}
-use Rattle.louds.specs.declared.Spot.the-variants.{At, Missing}
-use Rattle.louds.specs.declared.Kids.{Kids}
-use Rattle.louds.specs.declared.Kids.the-variants.{Run, NoNode}
-use Rattle.louds.specs.declared.Up.{Up}
-use Rattle.louds.specs.declared.Up.the-variants.{Node, NoOne}
+use Rattle.louds.specs.declared.answers.Spot.{Spot}
+use Rattle.louds.specs.declared.answers.Spot.the-variants.{At, Missing}
+use Rattle.louds.specs.declared.answers.Children.{Children}
+use Rattle.louds.specs.declared.answers.Children.the-variants.{Run, NoNode}
+use Rattle.louds.specs.declared.answers.Up.{Up}
+use Rattle.louds.specs.declared.answers.Up.the-variants.{Node, NoOne}
 use Rattle.louds.specs.Rank.{onesBefore, zerosBefore}
 use Rattle.louds.specs.Select.{oneAt, zeroAt}
 
@@ -20,11 +20,11 @@ orEnd len (At q) = q
 orEnd len Missing = len
 
 -- the ones between a zero and a stop; the first is one more than the ones before them
-unfoldable pub runFrom : (ℕ → ℕ) → Spot → ℕ → Kids
+unfoldable pub runFrom : (ℕ → ℕ) → Spot → ℕ → Children
 runFrom b Missing stop = NoNode
 runFrom b (At p) stop = Run (onesBefore b p + 1) (onesBefore b stop - onesBefore b p)
 
-unfoldable pub childrenOf : (ℕ → ℕ) → ℕ → ℕ → Kids
+unfoldable pub childrenOf : (ℕ → ℕ) → ℕ → ℕ → Children
 childrenOf b len k = runFrom b (zeroAt b len k) (orEnd len (zeroAt b len (k + 1)))
 
 unfoldable pub upFrom : (ℕ → ℕ) → Spot → Up

@@ -28,8 +28,8 @@ abbrev pub fewerBy : ℕ → ℕ → ℕ
 fewerBy sums j = ((complement (sums * 2 ^ 8 % 2 ^ wordBits) + mostLess) % 2 ^ wordBits + j % 256 * lowBits) % 2 ^ wordBits
 
 -- where the byte before the first begins that has j ones before it, or the last
-abbrev pub startBy : ℕ → ℕ
-startBy fewer = bitAnd (trailingZeros wordBits (bitAnd (complement fewer) topBits) + 56) 56
+abbrev pub byteStart : ℕ → ℕ
+byteStart fewer = bitAnd (trailingZeros wordBits (bitAnd (complement fewer) topBits) + 56) 56
 
 unfoldable pub onesFrom : ℕ → ℕ → ℕ → ℕ
-onesFrom x sums j = cleared (fewerBy sums j / 2 ^ startBy (fewerBy sums j) % 128) (above x (startBy (fewerBy sums j)) % 2 ^ wordBits)
+onesFrom x sums j = cleared (fewerBy sums j / 2 ^ byteStart (fewerBy sums j) % 128) (above x (byteStart (fewerBy sums j)) % 2 ^ wordBits)

@@ -2,29 +2,29 @@
 ghost use mathlib.Core.Path.{_≡_};
 ghost use Rattle.keymap.specs.Bits.{bit};
 ghost use Rattle.louds.specs.Nodes.{childrenOf, parentOf};
-use crate::Kids;
-use crate::Spot;
-use crate::Up;
+use crate::answers::Children;
+use crate::answers::Spot;
+use crate::answers::Up;
 use crate::select::one_at;
 use crate::select::zero_at;
 use crate::select::zero_from;
 
 // The children of node k: the ones after the k-th zero up to the next zero or the end.
-pub fn children(words: &[u64], len: usize, k: usize) -> Kids
+pub fn children(words: &[u64], len: usize, k: usize) -> Children
     ensures { λ r. ⌜ r ≡ childrenOf (bit (now (words .entry))) len k ⌝ }
 {
     let Spot::At(p) = zero_at(words, len, k) else {
-        return Kids::NoNode;
+        return Children::NoNode;
     };
     let start = p + 1;
     // k - 1 of the bits before `p` are zeros, the others ones
     let first = start - (k - 1);
     match zero_from(words, len, start, 1) {
-        Spot::At(q) => Kids::Run {
+        Spot::At(q) => Children::Run {
             first,
             count: q - start,
         },
-        Spot::Missing => Kids::Run {
+        Spot::Missing => Children::Run {
             first,
             count: len - start,
         },

@@ -9,6 +9,8 @@ use crate::answers::Gone;
 use crate::answers::GotoMove;
 use crate::answers::Queried;
 use crate::answers::QueryMove;
+use louds::Children;
+use louds::children;
 use walks::entries::Held;
 use walks::entries::value_at;
 use walks::glide::glide;
@@ -97,21 +99,27 @@ pub fn go_down(labels: &[u16], values: &[u32], words: &[u64], node: u32) -> Goto
     ensures { λ r. ⌜ r ≡ gotoBy (lentImage labels values words) node ⌝ }
 {
     let len = 2 * labels.len() + 3;
-    let s = stand_at(words, len, node as usize);
-    let k = kids(words, len, s);
-    if k.count == 0 {
+    let from = node as usize;
+    let Children::Run { first, count } = children(words, len, from) else {
+        return GotoMove {
+            answer: Gone::Ok(0),
+            node,
+        };
+    };
+    if count == 0 {
         return GotoMove {
             answer: Gone::Ok(0),
             node,
         };
     }
-    if 1 < k.count {
+    if 1 < count {
         return GotoMove {
             answer: Gone::Err(0),
             node,
         };
     }
-    let c = kid_at(words, len, s.node, k.next, k.first);
+    // the zero behind an only child has as many zeros before it as the node's number says, and as many ones as the child's
+    let c = kid_at(words, len, from, from + first, first);
     let g = glide(labels, values, words, len, c);
     let distance = g.steps + 1;
     let end = g.stand.node;

@@ -17,8 +17,8 @@ use Rattle.keymap.specs.Members.{In}
 use Rattle.keymap.specs.Key.{Key}
 use Rattle.keymap.specs.Bits.{bit}
 use Rattle.keymap.specs.Image.{Image, bitsFor}
-use Rattle.louds.specs.declared.Kids.{Kids}
-use Rattle.louds.specs.declared.Kids.the-variants.{Run, NoNode}
+use Rattle.louds.specs.declared.answers.Children.{Children}
+use Rattle.louds.specs.declared.answers.Children.the-variants.{Run, NoNode}
 use Rattle.louds.specs.Nodes.{childrenOf}
 use Rattle.image.specs.Accept.{entries, nodeEntry, nodeValue}
 use Rattle.image.specs.AcceptTest.{lengthsFit}
@@ -29,7 +29,7 @@ unfoldable pub counted : ℕ → ℕ → ℕ → ℕ → List ℕ
 counted n k zero m = []
 counted n k (suc left) m = cond (counts n k m) (m ∷ counted n k left (m + 1)) (counted n k left (m + 1))
 
-abbrev pub countedAmong : ℕ → ℕ → Kids → List ℕ
+abbrev pub countedAmong : ℕ → ℕ → Children → List ℕ
 countedAmong n k NoNode = []
 countedAmong n k (Run first count) = counted n k count first
 
@@ -51,7 +51,7 @@ lookedAt ls k zero m a = []
 lookedAt ls k (suc left) m a =
     cond (counts (length ls) k m) (m ∷ cond (isChildBy ls k m a) [] (lookedAt ls k left (m + 1) a)) (lookedAt ls k left (m + 1) a)
 
-abbrev pub lookedAmong : List ℕ → ℕ → Kids → ℕ → List ℕ
+abbrev pub lookedAmong : List ℕ → ℕ → Children → ℕ → List ℕ
 lookedAmong ls k NoNode a = []
 lookedAmong ls k (Run first count) a = lookedAt ls k count first a
 

@@ -19,8 +19,8 @@ use Rattle.keymap.specs.Key.{Key}
 use Rattle.keymap.specs.Label.{mark, labelIn}
 use Rattle.keymap.specs.Bits.{bit}
 use Rattle.keymap.specs.Image.{Image, bitsFor}
-use Rattle.louds.specs.declared.Kids.{Kids}
-use Rattle.louds.specs.declared.Kids.the-variants.{Run, NoNode}
+use Rattle.louds.specs.declared.answers.Children.{Children}
+use Rattle.louds.specs.declared.answers.Children.the-variants.{Run, NoNode}
 use Rattle.louds.specs.Nodes.{childrenOf}
 use Rattle.image.specs.Accept.{entries}
 
@@ -49,7 +49,7 @@ unfoldable pub lowestBy : List ℕ → ℕ → ℕ → ℕ → ℕ → Option �
 lowestBy ls k zero m a = none
 lowestBy ls k (suc left) m a = cond (isChildBy ls k m a) (some m) (lowestBy ls k left (m + 1) a)
 
-abbrev pub childAmong : List ℕ → ℕ → Kids → ℕ → Option ℕ
+abbrev pub childAmong : List ℕ → ℕ → Children → ℕ → Option ℕ
 childAmong ls k NoNode a = none
 childAmong ls k (Run first count) a = lowestBy ls k count first a
 

@@ -17,7 +17,7 @@ use Rattle.keymap.specs.Key.{Key}
 use Rattle.louds.specs.Select.{zeroAt, zeroFrom}
 use Rattle.louds.specs.Nodes.{orEnd}
 use Rattle.walks.specs.declared.stands.Stand.{Stand}
-use Rattle.walks.specs.declared.stands.Children.{Children}
+use Rattle.walks.specs.declared.answers.Kids.{Kids}
 use Rattle.walks.specs.declared.entries.Child.{Child}
 use Rattle.walks.specs.declared.entries.Child.the-variants.{Node, Absent}
 use Rattle.walks.specs.declared.moves.Reached.{Reached}
@@ -37,7 +37,7 @@ isStand len k p = ltb p len && (leb 1 k && leb k (p + 1))
 abbrev pub nextZero : (ℕ → ℕ) → ℕ → ℕ → ℕ
 nextZero b len p = orEnd len (zeroFrom b len (p + 1) 1)
 
-unfoldable pub kidsFrom : (ℕ → ℕ) → ℕ → Stand → Children
+unfoldable pub kidsFrom : (ℕ → ℕ) → ℕ → Stand → Kids
 kidsFrom b len s =
     cond (isStand len (s .node) (s .zero))
     (record { first = s .zero + 1 - (s .node - 1); count = nextZero b len (s .zero) - (s .zero + 1); next = nextZero b len (s .zero) })

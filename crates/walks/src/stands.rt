@@ -4,6 +4,7 @@ ghost use mathlib.Core.Path.{_≡_};
 ghost use Rattle.keymap.specs.Bits.{bit};
 ghost use Rattle.louds.specs.Nodes.{orEnd};
 ghost use Rattle.walks.specs.Stands.{standAt, isStand, kidsFrom, kidFrom};
+use crate::answers::Kids;
 use louds::Spot;
 use louds::zero_at;
 use louds::zero_from;
@@ -13,14 +14,6 @@ pub struct Stand {
     pub node: usize,
     // Where the node's zero is, or the end of the bits; its children are the ones behind it.
     pub zero: usize,
-}
-
-// The children of a node.
-pub struct Children {
-    pub first: usize,
-    pub count: usize,
-    // Where the zero behind them is, or the end of the bits.
-    pub next: usize,
 }
 
 // Where a bit stands that was asked for, or the end of the bits among which it was.
@@ -58,11 +51,11 @@ fn is_stand(len: usize, node: usize, zero: usize) -> bool
 }
 
 // The children of a stand: the ones behind its zero, up to the next zero or the end. A stand that cannot be one has none.
-pub fn kids(words: &[u64], len: usize, s: Stand) -> Children
+pub fn kids(words: &[u64], len: usize, s: Stand) -> Kids
     ensures { λ r. ⌜ r ≡ kidsFrom (bit (now (words .entry))) len s ⌝ }
 {
     if !is_stand(len, s.node, s.zero) {
-        return Children {
+        return Kids {
             first: 0,
             count: 0,
             next: len,
@@ -71,7 +64,7 @@ pub fn kids(words: &[u64], len: usize, s: Stand) -> Children
     let start = s.zero + 1;
     let spot = zero_from(words, len, start, 1);
     let next = or_end(spot, len);
-    Children {
+    Kids {
         first: start - (s.node - 1),
         count: next - start,
         next,

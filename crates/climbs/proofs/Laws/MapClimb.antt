@@ -27,7 +27,7 @@ use Rattle.keymap.specs.Decode.{imageMap}
 use Rattle.keymap.proofs.Laws.Begins.{prefix-iff, prefix-trans}
 use Rattle.keymap.proofs.Laws.Steps.{upper-last}
 use Rattle.keymap.proofs.Laws.Paths.{pathOf-root, pathOf-in, pathOf-nodeOf, pathOf-longer, nodeOf-node, nodeOf-pathOf, nodes-iff}
-use Rattle.louds.specs.declared.Up.the-variants.{Node}
+use Rattle.louds.specs.declared.answers.Up.the-variants.{Node}
 use Rattle.louds.specs.Nodes.{parentOf}
 use Rattle.louds.proofs.Laws.MapNodes.{mapBits, mapLength, parent-node}
 use Rattle.image.specs.Accept.{entries}

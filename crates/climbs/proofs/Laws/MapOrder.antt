@@ -26,8 +26,8 @@ use Rattle.keymap.proofs.Laws.Bits.{bit-small}
 use Rattle.keymap.proofs.Laws.Begins.{prefix-iff, prefix-refl, prefix-trans, prefix-chain, prefix-proper}
 use Rattle.keymap.proofs.Laws.Paths.{pathOf-in, pathOf-one, pathOf-longer, nodeOf-node, nodeOf-pathOf, childrenIn-ordered}
 use Rattle.keymap.proofs.Laws.Steps.{upper-last, nextIn-index, lastIn-index, nextIn-first, lastIn-none, next-child, last-child, next-sibling, last-sibling, pathsBelow-iff, leastAbove-valued, leastAbove-unvalued, leastAbove-last, nodesAbove-falls}
-use Rattle.louds.specs.declared.Spot.the-variants.{At}
-use Rattle.louds.specs.declared.Kids.the-variants.{Run}
+use Rattle.louds.specs.declared.answers.Spot.the-variants.{At}
+use Rattle.louds.specs.declared.answers.Children.the-variants.{Run}
 use Rattle.louds.specs.Select.{oneAt}
 use Rattle.louds.specs.Nodes.{childrenOf}
 use Rattle.louds.proofs.Laws.Rank.{ones-zeros}

@@ -19,9 +19,9 @@ use lib.Dec.{eqb, ltb}
 use borrow.Author.Tests.{lt-ltb, le-ltb, eq-eqb, ne-eqb, eqb-true}
 use Rattle.keymap.specs.Bits.{sumBelow}
 use Rattle.keymap.proofs.Laws.Sums.{sumBelow-mono, sumBelow-next}
-use Rattle.louds.specs.declared.Spot.{Spot}
-use Rattle.louds.specs.declared.Spot.the-variants.{At, Missing}
-use Rattle.louds.specs.declared.Kids.the-variants.{Run}
+use Rattle.louds.specs.declared.answers.Spot.{Spot}
+use Rattle.louds.specs.declared.answers.Spot.the-variants.{At, Missing}
+use Rattle.louds.specs.declared.answers.Children.the-variants.{Run}
 use Rattle.louds.specs.Rank.{gap}
 use Rattle.louds.specs.Select.{oneAt, zeroAt}
 use Rattle.louds.specs.Nodes.{orEnd, childrenOf}

@@ -3,12 +3,13 @@
 --     hasParent-far, -zero, -before, -last    a perch, by the first test that fails; `hasParent-told`: what it tells
 --     parentFrom-none, -some                  the parent of a perch, by that test
 --     parentBy-told                           a parent's number is from 1 to the node's less 1
+--     perch-lost, perch-up                    a perch by its parent's number, as louds answers it
 --     parent-rule                             the parent of a perch is the rule's
 --     depth-root, depth-next                  how deep a node is, by its parent
 --     rise-to, rise-lost                      what a step up from a perch that knows its one tells
 -- Assumes nothing.
 use mathlib.Core.Path.{_≡_, refl, sym, ap, _∙_}
-use Prim.Native.Nat.{ℕ, zero, suc, _-_, _≤_, _<_}
+use Prim.Native.Nat.{ℕ, zero, suc, _+_, _-_, _≤_, _<_}
 use native.Mathlib.Nat.{lt-of-not-le}
 use native.Mathlib.Decide.{decLe}
 use native.Mathlib.Omega.{arith}
@@ -16,15 +17,15 @@ use mathlib.Core.Bool.{Bool, true, false, true≢false}
 use mathlib.Core.Option.{Option, none, some, Option·none-ne-some}
 use lib.Dec.{ltb, leb}
 use borrow.Author.Tests.{lt-ltb, le-ltb, le-leb, lt-leb, ltb-true}
-use Rattle.louds.specs.declared.Spot.{Spot}
-use Rattle.louds.specs.declared.Spot.the-variants.{At, Missing}
-use Rattle.louds.specs.declared.Up.{Up}
-use Rattle.louds.specs.declared.Up.the-variants.{Node, NoOne}
+use Rattle.louds.specs.declared.answers.Spot.{Spot}
+use Rattle.louds.specs.declared.answers.Spot.the-variants.{At, Missing}
+use Rattle.louds.specs.declared.answers.Up.{Up}
+use Rattle.louds.specs.declared.answers.Up.the-variants.{Node, NoOne}
 use Rattle.louds.specs.Select.{kth, oneAt, oneBack}
 use Rattle.louds.specs.Nodes.{orEnd, parentOf}
 use Rattle.louds.proofs.Laws.Rank.{ones-zeros}
 use Rattle.louds.proofs.Laws.Select.{Stands, rank-kth, kth-exists, kth-back}
-use Rattle.louds.proofs.Laws.Nodes.{parent-none, parent-at}
+use Rattle.louds.proofs.Laws.Nodes.{parent-none, parent-at, parent-told}
 use Rattle.keymap.specs.Bits.{sumBelow}
 use Rattle.keymap.proofs.Laws.Sums.{sumBelow-mono}
 use Rattle.climbs.specs.declared.perches.Perch.{Perch}
@@ -125,6 +126,29 @@ module _ (b : ℕ → ℕ) (len : ℕ) where
 -- ---- a perch that knows its one
 
 module _ (b : ℕ → ℕ) (small : (i : ℕ) → b i ≤ 1) (len : ℕ) where
+  pub perch-lost : (m : ℕ) → parentOf b len m ≡ NoOne → perchAt b len m ≡ record { node = m; one = len }
+  unfolding orEnd
+  perch-lost m e = go (oneAt b len m) refl
+    where
+      go : (t : Spot) → oneAt b len m ≡ t → perchAt b len m ≡ record { node = m; one = len }
+      go (At q) f = let r = parent-at b small len m q f in let z : _≡_ {A = ℕ} 0 1 = cc in absurd (omega arith)
+      go Missing f = let one : orEnd len (oneAt b len m) ≡ len = ap (orEnd len) f in λ x. record { node = m; one = one x }
+
+  -- m-1 ones and k zeros stand before the one
+  pub record UpTold (m k : ℕ) : Type 0 where
+    pub node : 1 ≤ m
+    pub inside : k + (m - 1) < len
+    pub perch : perchAt b len m ≡ record { node = m; one = k + (m - 1) }
+
+  pub perch-up : (m k : ℕ) → parentOf b len m ≡ Node k → UpTold m k
+  unfolding orEnd
+  perch-up m k e =
+      let (q, u) = parent-told b small len m k e in
+      let s = rank-kth b small len m q (u .answer) in
+      let at : q ≡ k + (m - 1) = omega (arith, u .zeros, s .rank, ones-zeros b small q) in
+      let one : orEnd len (oneAt b len m) ≡ k + (m - 1) = ap (orEnd len) (u .answer) ∙ at in
+      record { node = omega (arith, s .rank); inside = omega (arith, s .inside, at); perch = λ x. record { node = m; one = one x } }
+
   pub parent-rule : (m : ℕ) → parentFrom b len (perchAt b len m) ≡ riseAt b len (parentBy b len m)
   unfolding orEnd
   parent-rule m = go (oneAt b len m) refl

@@ -28,7 +28,7 @@ use Rattle.louds.specs.Digits.{digit, above}
 use Rattle.louds.specs.Rank.{gap, zerosBefore}
 use Rattle.louds.specs.Select.{onward, zeroAt, zeroFrom}
 use Rattle.louds.specs.Nodes.{orEnd}
-use Rattle.louds.specs.declared.Spot.the-variants.{At, Missing}
+use Rattle.louds.specs.declared.answers.Spot.the-variants.{At, Missing}
 use Rattle.louds.proofs.Laws.Rank.{gap-small, ones-zeros}
 use Rattle.louds.proofs.Laws.Words.{ones-low}
 use Rattle.louds.proofs.Laws.Digits.{above-all, above-end, above-wide, ones-few, ones-flat, ones-step, Turn, turn}

@@ -32,8 +32,8 @@ use Rattle.keymap.proofs.Laws.Sums.{sumBelow-zero, sumBelow-suc, sumBelow-lt, s
 use Rattle.keymap.proofs.Laws.Bits.{bit-small, bit-either, length-unpack, getD-unpack, unpack-small, pack-unpack}
 use Rattle.keymap.proofs.Laws.Degrees.{sequence-unary, unary-degreesFrom, length-sequence}
 use Rattle.keymap.proofs.Laws.Shape.{Shape, shape-image, shape-orderly, shape-bytes, shape-map, shape-few, shape-catalogue, map-shape}
-use Rattle.louds.specs.declared.Kids.the-variants.{Run}
-use Rattle.louds.specs.declared.Up.the-variants.{Node}
+use Rattle.louds.specs.declared.answers.Children.the-variants.{Run}
+use Rattle.louds.specs.declared.answers.Up.the-variants.{Node}
 use Rattle.louds.specs.Rank.{onesBefore, zerosBefore}
 use Rattle.louds.proofs.Laws.Rank.{ones-zeros, zeros-ext}
 use Rattle.louds.proofs.Laws.Select.{kth-rank}

@@ -24,8 +24,8 @@ use Rattle.keymap.specs.Bits.{bit, wordsFor}
 use Rattle.keymap.specs.Image.{Image, bitsFor}
 use Rattle.keymap.proofs.Laws.Sums.{sumBelow-zero, sumBelow-suc, sumBelow-mono, sumBelow-lt}
 use Rattle.keymap.proofs.Laws.Bits.{bit-small, bit-either}
-use Rattle.louds.specs.declared.Up.the-variants.{Node}
-use Rattle.louds.specs.declared.Spot.the-variants.{At}
+use Rattle.louds.specs.declared.answers.Up.the-variants.{Node}
+use Rattle.louds.specs.declared.answers.Spot.the-variants.{At}
 use Rattle.louds.specs.Select.{zeroAt}
 use Rattle.louds.specs.Rank.{gap, onesBefore, zerosBefore}
 use Rattle.louds.proofs.Laws.Rank.{gap-small, gap-zero, bit-gap, ones-zeros}

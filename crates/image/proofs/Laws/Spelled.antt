@@ -21,8 +21,8 @@ use Rattle.keymap.specs.Image.{Image, bitsFor}
 use Rattle.keymap.proofs.Laws.Sums.{sumBelow-suc, sumBelow-mono}
 use Rattle.keymap.proofs.Laws.Bits.{bit-small, bit-pack, length-pack}
 use Rattle.keymap.proofs.Laws.Degrees.{length-sequence, sequence-small, total-take}
-use Rattle.louds.specs.declared.Kids.the-variants.{Run}
-use Rattle.louds.specs.declared.Up.the-variants.{Node}
+use Rattle.louds.specs.declared.answers.Children.the-variants.{Run}
+use Rattle.louds.specs.declared.answers.Up.the-variants.{Node}
 use Rattle.louds.specs.Rank.{gap, onesBefore, zerosBefore}
 use Rattle.louds.proofs.Laws.Rank.{gap-small, ones-zeros, zeros-ext}
 use Rattle.louds.proofs.Laws.Select.{rank-kth, kth-exists}

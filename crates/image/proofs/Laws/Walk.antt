@@ -22,8 +22,8 @@ use Rattle.keymap.proofs.Laws.BreadthFirst.{Item}
 use Rattle.keymap.proofs.Laws.Items.{itemDegree, itemDegree-top, Siblings, siblings-top, siblings-inside, siblings-here, siblings-kids, siblings-degree, children-beyond}
 use Rattle.keymap.proofs.Laws.Entries.{getD-labels, getD-values}
 use Rattle.keymap.proofs.Laws.Shape.{shape-degree, shape-size}
-use Rattle.louds.specs.declared.Kids.the-variants.{Run}
-use Rattle.louds.specs.declared.Up.the-variants.{Node}
+use Rattle.louds.specs.declared.answers.Children.the-variants.{Run}
+use Rattle.louds.specs.declared.answers.Up.the-variants.{Node}
 use Rattle.image.specs.Accept.{entries, parentIn, kidsIn, Accepted, LentSlices}
 use Rattle.image.proofs.Laws.Spelled.{inList, spelled-children, spelled-parent}
 use Rattle.image.proofs.Laws.Accept.{accepted-shape, accepted-forest, shape-spelled}

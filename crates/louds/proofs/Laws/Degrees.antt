@@ -18,8 +18,8 @@ use Rattle.keymap.specs.Degrees.{unary, total, sequence}
 use Rattle.keymap.proofs.Laws.Sums.{sumBelow-zero, sumBelow-suc, sumBelow-first, sumBelow-add, sumBelow-ext, sumBelow-none}
 use Rattle.keymap.proofs.Laws.Bits.{bit-pack}
 use Rattle.keymap.proofs.Laws.Degrees.{sequence-unary, unary-one, unary-past, sequence-small, length-unary, total-take}
-use Rattle.louds.specs.declared.Spot.the-variants.{At}
-use Rattle.louds.specs.declared.Kids.the-variants.{Run}
+use Rattle.louds.specs.declared.answers.Spot.the-variants.{At}
+use Rattle.louds.specs.declared.answers.Children.the-variants.{Run}
 use Rattle.louds.specs.Rank.{gap, zerosBefore}
 use Rattle.louds.specs.Select.{kth, zeroAt}
 use Rattle.louds.specs.Nodes.{childrenOf}

@@ -23,7 +23,7 @@ use Rattle.keymap.specs.Limits.{wordBits}
 use Rattle.keymap.specs.Bits.{bit, sumBelow}
 use Rattle.keymap.proofs.Laws.Sums.{sumBelow-zero, sumBelow-add, sumBelow-ext}
 use Rattle.keymap.proofs.Laws.Bits.{bit-small, bit-in}
-use Rattle.louds.specs.declared.Spot.the-variants.{At, Missing}
+use Rattle.louds.specs.declared.answers.Spot.the-variants.{At, Missing}
 use Rattle.louds.specs.Digits.{digit}
 use Rattle.louds.specs.Select.{kth, oneBack}
 use Rattle.louds.proofs.Laws.Rank.{ones-zeros}

@@ -24,9 +24,9 @@ use Rattle.keymap.proofs.Laws.Bits.{bit-small}
 use Rattle.keymap.proofs.Laws.Degrees.{total-take}
 use Rattle.keymap.proofs.Laws.Image.{length-imageBits}
 use Rattle.keymap.proofs.Laws.Paths.{degreeAt, getD-map, indexOf-in, pathOf-child, children-room, childrenIn-iff, nodeOf-node, pathOf-nodeOf, nodeOf-pathOf}
-use Rattle.louds.specs.declared.Spot.the-variants.{At}
-use Rattle.louds.specs.declared.Kids.the-variants.{Run}
-use Rattle.louds.specs.declared.Up.the-variants.{Node}
+use Rattle.louds.specs.declared.answers.Spot.the-variants.{At}
+use Rattle.louds.specs.declared.answers.Children.the-variants.{Run}
+use Rattle.louds.specs.declared.answers.Up.the-variants.{Node}
 use Rattle.louds.specs.Nodes.{childrenOf, parentOf}
 use Rattle.louds.proofs.Laws.Nodes.{parent-of-child}
 use Rattle.louds.proofs.Laws.Degrees.{children-pack}

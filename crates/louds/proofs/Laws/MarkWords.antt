@@ -30,7 +30,7 @@ use Rattle.keymap.specs.Limits.{wordBits}
 use Rattle.keymap.specs.Bits.{bit, sumBelow, number}
 use Rattle.keymap.proofs.Laws.Sums.{sumBelow-zero, sumBelow-suc, sumBelow-add, sumBelow-mono, sumBelow-ext, sumBelow-none}
 use Rattle.keymap.proofs.Laws.Bits.{bit-in, number-lt, digit-number}
-use Rattle.louds.specs.declared.Spot.the-variants.{At, Missing}
+use Rattle.louds.specs.declared.answers.Spot.the-variants.{At, Missing}
 use Rattle.louds.specs.Digits.{digit, complement, above}
 use Rattle.louds.specs.Rank.{gap}
 use Rattle.louds.specs.Select.{kth, onward, marks}

@@ -16,30 +16,25 @@
 --     sibling-behind    a node has a next sibling exactly if a one stands right behind its own
 --     children-follow   the run of node k + 1 begins where that of node k ends
 --     children-within   the numbers of a run are those of ones
---     children-one      a number is in one run only
---     parent-mono       parents rise as their children do
---     zeroAt-agree, zeroFrom-agree, oneAt-agree, children-agree, parent-agree
---                       only the first len bits matter
+--     children-agree    only the first len bits matter
 --
 -- Assumes nothing.
 use mathlib.Core.Path.{_≡_, refl, sym, ap, ap₂, _∙_, subst}
 use mathlib.Core.Logic.{_↔_, _⊎_, inl, inr, ⊎-elim}
 use Prim.Native.Nat.{ℕ, _+_, _-_, _≤_, _<_}
 use native.Mathlib.Nat.{le-refl, le-trans, le-of-lt, lt-of-not-le, eq-or-lt-of-le}
-use native.Mathlib.Decide.{decLe}
 use native.Mathlib.Omega.{arith}
 use Rattle.keymap.specs.Bits.{sumBelow}
 use Rattle.keymap.proofs.Laws.Sums.{sumBelow-next, sumBelow-mono, sumBelow-lt, sumBelow-ext}
-use Rattle.louds.specs.declared.Spot.{Spot}
-use Rattle.louds.specs.declared.Spot.the-variants.{At, Missing}
-use Rattle.louds.specs.declared.Kids.the-variants.{Run, NoNode}
-use Rattle.louds.specs.declared.Up.{Up}
-use Rattle.louds.specs.declared.Up.the-variants.{Node, NoOne}
+use Rattle.louds.specs.declared.answers.Spot.{Spot}
+use Rattle.louds.specs.declared.answers.Spot.the-variants.{At, Missing}
+use Rattle.louds.specs.declared.answers.Children.the-variants.{Run, NoNode}
+use Rattle.louds.specs.declared.answers.Up.the-variants.{Node, NoOne}
 use Rattle.louds.specs.Rank.{gap, onesBefore, zerosBefore}
-use Rattle.louds.specs.Select.{kth, onward, zeroAt, zeroFrom, oneAt}
+use Rattle.louds.specs.Select.{kth, zeroAt, oneAt}
 use Rattle.louds.specs.Nodes.{orEnd, runFrom, childrenOf, upFrom, parentOf}
-use Rattle.louds.proofs.Laws.Rank.{gap-small, gap-ext, bit-gap, ones-zeros, zeros-ext}
-use Rattle.louds.proofs.Laws.Select.{Found, Short, Stands, kth-find, kth-told, kth-missing, kth-ext, kth-mono, kth-rank, rank-kth, onward-at, onward-before}
+use Rattle.louds.proofs.Laws.Rank.{gap-small, gap-ext, bit-gap, ones-zeros}
+use Rattle.louds.proofs.Laws.Select.{Found, Short, Stands, kth-find, kth-told, kth-missing, kth-ext, kth-rank, rank-kth}
 
 -- ---- equations by case
 module _ (b : ℕ → ℕ) (len : ℕ) where
@@ -247,42 +242,10 @@ module _ (b : ℕ → ℕ) (small : (i : ℕ) → b i ≤ 1) (len : ℕ) where
       let stop : ℕ = orEnd len (zeroAt b len (k + 1)) in
       omega (arith, h, s, t, ones-zeros b small p, ones-zeros b small stop, sumBelow-mono b (t .within))
 
-  pub children-one : (j k f c g d m : ℕ) → childrenOf b len j ≡ Run f c → childrenOf b len k ≡ Run g d → f ≤ m → m < f + c → g ≤ m → m < g + d → j ≡ k
-  children-one j k f c g d m one other lo hi lo-other hi-other =
-      let p = parent-of-child j f c m one lo hi in
-      let q = parent-of-child k g d m other lo-other hi-other in
-      cc
-
-  pub parent-mono : (m n j k : ℕ) → parentOf b len m ≡ Node j → parentOf b len n ≡ Node k → m ≤ n → j ≤ k
-  parent-mono m n j k lower upper l = ⊎-elim same less (eq-or-lt-of-le l)
-    where
-      same : m ≡ n → j ≤ k
-      same q =
-          let z : parentOf b len m ≡ parentOf b len n = ap (parentOf b len) q in
-          let y : j ≡ k = cc in
-          omega arith
-
-      less : m < n → j ≤ k
-      less h =
-          let u = parent-told m j lower in
-          let v = parent-told n k upper in
-          let o = kth-mono b small len m n (u .0) (v .0) (u .1 .answer) (v .1 .answer) h in
-          omega (arith, u .1 .zeros, v .1 .zeros, sumBelow-mono (gap b) (le-of-lt o))
-
 -- ---- bits that agree below len
 module _ (b c : ℕ → ℕ) (len : ℕ) (same : (i : ℕ) → i < len → b i ≡ c i) where
-  pub oneAt-agree : (m : ℕ) → oneAt b len m ≡ oneAt c len m
-  oneAt-agree m = kth-ext b c len m same
-
-  pub zeroAt-agree : (k : ℕ) → zeroAt b len k ≡ zeroAt c len k
+  zeroAt-agree : (k : ℕ) → zeroAt b len k ≡ zeroAt c len k
   zeroAt-agree k = kth-ext (gap b) (gap c) len k (λ i l. gap-ext b c i i (same i l))
-
-  pub zeroFrom-agree : (from k : ℕ) → zeroFrom b len from k ≡ zeroFrom c len from k
-  zeroFrom-agree from k = kth-ext (onward from (gap b)) (onward from (gap c)) len k (λ i l. go i l (decLe from i))
-    where
-      go : (i : ℕ) → i < len → Dec (from ≤ i) → onward from (gap b) i ≡ onward from (gap c) i
-      go i l (yes h) = onward-at (gap b) from i h ∙ gap-ext b c i i (same i l) ∙ sym (onward-at (gap c) from i h)
-      go i l (no h) = onward-before (gap b) from i (lt-of-not-le h) ∙ sym (onward-before (gap c) from i (lt-of-not-le h))
 
   pub children-agree : (k : ℕ) → childrenOf b len k ≡ childrenOf c len k
   unfolding orEnd
@@ -305,14 +268,3 @@ module _ (b c : ℕ → ℕ) (len : ℕ) (same : (i : ℕ) → i < len → b i �
           ∙ ap (λ (x : Spot). Run (onesBefore c p + 1) (onesBefore c (orEnd len x) - onesBefore c p)) (zeroAt-agree (k + 1))
           ∙ sym (children-found c len k p (sym (zeroAt-agree k) ∙ e))
       go Missing e = children-none b len k e ∙ sym (children-none c len k (sym (zeroAt-agree k) ∙ e))
-
-  pub parent-agree : (m : ℕ) → parentOf b len m ≡ parentOf c len m
-  parent-agree m = go (oneAt b len m) refl
-    where
-      go : (t : Spot) → oneAt b len m ≡ t → parentOf b len m ≡ parentOf c len m
-      go (At q) e =
-          let inside = kth-told b len m q e .inside in
-          parent-found b len m q e
-          ∙ ap Node (zeros-ext b c q (λ j l. same j (le-trans l (le-of-lt inside))))
-          ∙ sym (parent-found c len m q (sym (oneAt-agree m) ∙ e))
-      go Missing e = parent-none b len m e ∙ sym (parent-none c len m (sym (oneAt-agree m) ∙ e))

@@ -24,8 +24,8 @@ use lib.Bits.{bitAnd, and-lt, and-mask}
 use lib.Count.{ones, ones-le, trailingZeros}
 use Rattle.keymap.specs.Limits.{wordBits}
 use Rattle.keymap.specs.Bits.{sumBelow}
-use Rattle.louds.specs.declared.Spot.{Spot}
-use Rattle.louds.specs.declared.Spot.the-variants.{At, Missing}
+use Rattle.louds.specs.declared.answers.Spot.{Spot}
+use Rattle.louds.specs.declared.answers.Spot.the-variants.{At, Missing}
 use Rattle.louds.specs.Digits.{digit, above}
 use Rattle.louds.specs.Taking.{lowBits, topBits}
 use Rattle.louds.specs.Nodes.{orEnd}

@@ -27,7 +27,7 @@ use Rattle.keymap.specs.Limits.{wordBits}
 use Rattle.keymap.specs.Bits.{bit, sumBelow}
 use Rattle.keymap.proofs.Laws.Sums.{sumBelow-mono, sumBelow-none}
 use Rattle.keymap.proofs.Laws.Bits.{bit-small, bit-beyond}
-use Rattle.louds.specs.declared.Spot.the-variants.{At, Missing}
+use Rattle.louds.specs.declared.answers.Spot.the-variants.{At, Missing}
 use Rattle.louds.specs.Digits.{digit, above}
 use Rattle.louds.specs.Nodes.{orEnd}
 use Rattle.louds.specs.Select.{kth, onward, marks, bitFrom}

@@ -17,7 +17,7 @@ use lib.Count.{ones, ones-le, trailingZeros, under}
 use Rattle.keymap.specs.Limits.{wordBits}
 use Rattle.keymap.specs.Bits.{sumBelow}
 use Rattle.louds.specs.Digits.{digit, complement, above}
-use Rattle.louds.specs.Taking.{lowBits, topBits, mostLess, cleared, fewerBy, startBy, onesFrom}
+use Rattle.louds.specs.Taking.{lowBits, topBits, mostLess, cleared, fewerBy, byteStart, onesFrom}
 use Rattle.louds.proofs.Laws.Digits.{complement-digit, and-both, and-one, shifted-low, above-all, above-end, above-wide, ones-few, ones-flat, Turn, turn}
 use Rattle.louds.proofs.Laws.Fields.{joined, joined-ext, joined-add, joined-lt, joined-field, joined-digit, joined-shl, delayed, delayed-before, delayed-at}
 use Rattle.louds.proofs.Laws.ByteRanks.{ranked, ranked-zero, byteRanks}
@@ -44,7 +44,7 @@ pub onesFrom-is : (x sums j fewer low : ℕ) → fewer ≡ fewerBy sums j → lo
 unfolding onesFrom
 onesFrom-is x sums j fewer low is lowest =
     ap (λ (l : ℕ). cleared (fewer / 2 ^ bitAnd (l + 56) 56 % 128) (above x (bitAnd (l + 56) 56) % 2 ^ wordBits)) lowest
-    ∙ ap (λ (f : ℕ). cleared (f / 2 ^ startBy f % 128) (above x (startBy f) % 2 ^ wordBits)) is
+    ∙ ap (λ (f : ℕ). cleared (f / 2 ^ byteStart f % 128) (above x (byteStart f) % 2 ^ wordBits)) is
 
 pub start-inside : (n : ℕ) → bitAnd n 56 < 64
 start-inside n = omega (arith, and-le-r n 56)
@@ -128,7 +128,7 @@ module _ (x j : ℕ) (few : j ≤ 64) where
   record Looked (fewer : ℕ) : Type 0 where
     pub index : ℕ
     pub inside : index < 8
-    pub start : startBy fewer ≡ 8 * index
+    pub start : byteStart fewer ≡ 8 * index
     pub held-there : 128 ≤ held index
 
   abbrev lost : ℕ → ℕ
@@ -233,27 +233,27 @@ module _ (x j : ℕ) (few : j ≤ 64) where
             (turn (lost fewer) 0 (lost fewer) (above-all (lost fewer)) (λ n. omega (arith, e, n)) (and-lt wordBits (complement fewer) topBits (omega arith) (lit< tt)))
 
     -- what is left to take away
-    own-over : Picking x j (fewer / 2 ^ startBy fewer % 128 + 1) (above x (startBy fewer))
+    own-over : Picking x j (fewer / 2 ^ byteStart fewer % 128 + 1) (above x (byteStart fewer))
     own-over = at looked
       where
-        at : Looked fewer → Picking x j (fewer / 2 ^ startBy fewer % 128 + 1) (above x (startBy fewer))
+        at : Looked fewer → Picking x j (fewer / 2 ^ byteStart fewer % 128 + 1) (above x (byteStart fewer))
         at l = record {
-          place = startBy fewer;
+          place = byteStart fewer;
           low = omega (arith, l .start, l .inside);
           cleared = refl;
           sum = omega (arith, over, l .held-there, held-lt (l .index) (l .inside), before-it, rank-few (l .index) (l .inside));
           some = omega arith;
         }
           where
-            before-it : ones (x % 2 ^ startBy fewer) ≡ ranked 8 x (l .index)
+            before-it : ones (x % 2 ^ byteStart fewer) ≡ ranked 8 x (l .index)
             before-it = ap (λ (e : ℕ). ones (x % 2 ^ e)) (l .start)
 
             field : fewer / 2 ^ (8 * l .index) % 2 ^ 8 ≡ held (l .index)
             field = ap (λ (z : ℕ). z / 2 ^ (8 * l .index) % 2 ^ 8) is ∙ joined-field 8 held 8 (l .index) held-lt (l .inside)
 
-            over : fewer / 2 ^ startBy fewer % 128 ≡ held (l .index) - 128
+            over : fewer / 2 ^ byteStart fewer % 128 ≡ held (l .index) - 128
             over =
-                let same : fewer / 2 ^ startBy fewer ≡ fewer / 2 ^ (8 * l .index) = ap (λ (e : ℕ). fewer / 2 ^ e) (l .start) in
+                let same : fewer / 2 ^ byteStart fewer ≡ fewer / 2 ^ (8 * l .index) = ap (λ (e : ℕ). fewer / 2 ^ e) (l .start) in
                 omega (arith, same, field, l .held-there, held-lt (l .index) (l .inside))
 
 -- ---- what is left
@@ -295,16 +295,16 @@ taken x j sums wide some enough is = made (turn x (p .place) rest (p .cleared) (
     own : fewer ≡ joined 8 (held x j few) 8
     own = ap (λ (s : ℕ). fewerBy s j) is ∙ own-fewer x j few
 
-    start : above x (startBy fewer) % 2 ^ wordBits ≡ above x (startBy fewer)
-    start = mod-eq-of-lt (above-wide x (startBy fewer) wide)
+    start : above x (byteStart fewer) % 2 ^ wordBits ≡ above x (byteStart fewer)
+    start = mod-eq-of-lt (above-wide x (byteStart fewer) wide)
 
     rest : ℕ
-    rest = cleared (fewer / 2 ^ startBy fewer % 128) (above x (startBy fewer) % 2 ^ wordBits)
+    rest = cleared (fewer / 2 ^ byteStart fewer % 128) (above x (byteStart fewer) % 2 ^ wordBits)
 
     p : Picking x j 1 rest
     p =
-        subst (λ (y : ℕ). Picking x j 1 (cleared (fewer / 2 ^ startBy fewer % 128) y)) (sym start)
-        (taking x j wide enough (fewer / 2 ^ startBy fewer % 128) (above x (startBy fewer)) (own-over x j few some fewer own))
+        subst (λ (y : ℕ). Picking x j 1 (cleared (fewer / 2 ^ byteStart fewer % 128) y)) (sym start)
+        (taking x j wide enough (fewer / 2 ^ byteStart fewer % 128) (above x (byteStart fewer)) (own-over x j few some fewer own))
 
     narrow : rest < 2 ^ wordBits
     narrow = omega (arith, p .cleared, above-wide x (p .place) wide)

@@ -6,6 +6,7 @@
 --     follow-end, follow-next                   a query, by its first label; `follow-stops`, `follow-on` from behind its first labels on
 --     ends-empty, ends-some                     at its end, by how many labels it had
 --     goto-leaf, goto-several, goto-through     by how many children there are; `goto-key`, `goto-parting` by what is held where the glide ends
+--     children-lost, children-count, only-run   how many there are, and the stand at an only one, by what louds answers of the node
 --     glide-few                                 a glide has no more steps than there are nodes
 -- Assumes nothing.
 use mathlib.Core.Path.{_≡_, refl, sym, ap, _∙_}
@@ -21,11 +22,17 @@ use borrow.Author.Tests.{lt-ltb, le-ltb, eq-eqb, ne-eqb}
 use Rattle.keymap.specs.Key.{Key}
 use Rattle.keymap.specs.Bits.{bit}
 use Rattle.keymap.specs.Image.{Image, bitsFor}
+use Rattle.keymap.proofs.Laws.Bits.{bit-small}
+use Rattle.louds.specs.declared.answers.Children.the-variants.{Run, NoNode}
+use Rattle.louds.specs.Nodes.{childrenOf}
 use Rattle.image.specs.Accept.{entries}
 use Rattle.walks.specs.declared.stands.Stand.{Stand}
+use Rattle.walks.specs.declared.answers.Kids.{Kids}
 use Rattle.walks.specs.declared.glide.Glided.{Glided}
 use Rattle.walks.specs.Rule.{childBy}
+use Rattle.walks.specs.Stands.{kidFrom}
 use Rattle.walks.specs.Glide.{goesThrough, onlyKid, glides, glidedFrom}
+use Rattle.walks.proofs.Laws.Stands.{RunTold, kids-lost, kids-run}
 use Rattle.places.specs.declared.answers.Answer.the-variants.{Match}
 use Rattle.places.specs.declared.answers.Queried.the-variants as queried
 use Rattle.places.specs.declared.answers.Followed.the-variants as followed
@@ -93,6 +100,24 @@ module _ (i : Image) where
         ∙ ap (λ (n : ℕ). followFrom i (drop n q) (j + 1) m) (sym (add-one j))
 
 -- ---- to where the keys part
+
+-- the children of node k, as louds answers them
+module _ (i : Image) (k : ℕ) where
+  pub children-lost : childrenOf (bit (i .words)) (bitsFor (entries i)) k ≡ NoNode → countFrom i (standIn i k) ≡ 0
+  children-lost e = ap (λ (x : Kids). x .count) (kids-lost (bit (i .words)) (bit-small (i .words)) (bitsFor (entries i)) k e)
+
+  module _ (f c : ℕ) (run : childrenOf (bit (i .words)) (bitsFor (entries i)) k ≡ Run f c) where
+    told : RunTold (bit (i .words)) (bit-small (i .words)) (bitsFor (entries i)) k f c
+    told = kids-run (bit (i .words)) (bit-small (i .words)) (bitsFor (entries i)) k f c run
+
+    pub children-count : (countFrom i (standIn i k) ≡ c) × (k + f + c ≤ bitsFor (entries i) + 1)
+    children-count = (ap (λ (x : Kids). x .count) (told .kids), told .within)
+
+    pub only-run : c ≡ 1 → kidFrom (bit (i .words)) (bitsFor (entries i)) k (k + f) f ≡ onlyKid (bit (i .words)) (bitsFor (entries i)) (standIn i k)
+    unfolding onlyKid
+    only-run one =
+        let kid : ℕ → ℕ → Stand = kidFrom (bit (i .words)) (bitsFor (entries i)) k in
+        sym (ap (λ (x : Kids). kid (x .next) (x .first)) (told .kids) ∙ ap (λ (n : ℕ). kid n f) (omega (arith, one)))
 
 module _ (i : Image) (k : ℕ) where
   pub goto-leaf : countFrom i (standIn i k) ≡ 0 → gotoBy i k ≡ record { answer = gone.Ok 0; node = k }

@@ -26,8 +26,8 @@ use Rattle.keymap.specs.Label.{mark}
 use Rattle.keymap.specs.Answers.{saysValue}
 use Rattle.keymap.specs.Bits.{bit}
 use Rattle.keymap.specs.Image.{Image, bitsFor}
-use Rattle.louds.specs.declared.Kids.{Kids}
-use Rattle.louds.specs.declared.Kids.the-variants.{Run, NoNode}
+use Rattle.louds.specs.declared.answers.Children.{Children}
+use Rattle.louds.specs.declared.answers.Children.the-variants.{Run, NoNode}
 use Rattle.louds.specs.Nodes.{childrenOf}
 use Rattle.louds.proofs.Laws.Nodes.{children-agree}
 use Rattle.image.specs.Accept.{entries, nodeEntry}
@@ -99,7 +99,7 @@ module _ (ls ks : List ℕ) (b c : ℕ → ℕ) (len : ℕ) (same : length ls �
   child-alike : (k a : ℕ) → ((m : ℕ) → In m (lookedOver ls b len a (some k)) → getD ls (m - 2) 0 ≡ getD ks (m - 2) 0) → childBy ls b len k a ≡ childBy ks c len k a
   child-alike k a agree = go (childrenOf b len k) refl
     where
-      go : (t : Kids) → childrenOf b len k ≡ t → childBy ls b len k a ≡ childBy ks c len k a
+      go : (t : Children) → childrenOf b len k ≡ t → childBy ls b len k a ≡ childBy ks c len k a
       go NoNode e = childBy-none ls b len k a e ∙ sym (childBy-none ks c len k a (sym (children-agree b c len bits k) ∙ e))
       go (Run f n) e =
           let own : (m : ℕ) → In m (lookedAt ls k n f a) → getD ls (m - 2) 0 ≡ getD ks (m - 2) 0 = rw e at agree in
@@ -123,7 +123,7 @@ module _ (ls : List ℕ) (b : ℕ → ℕ) (len : ℕ) where
   child-looked : (k a m : ℕ) → childBy ls b len k a ≡ some m → In m (lookedOver ls b len a (some k))
   child-looked k a m e = go (childrenOf b len k) refl
     where
-      go : (t : Kids) → childrenOf b len k ≡ t → In m (lookedOver ls b len a (some k))
+      go : (t : Children) → childrenOf b len k ≡ t → In m (lookedOver ls b len a (some k))
       go NoNode f = absurd (Option·none-ne-some m (sym (childBy-none ls b len k a f) ∙ e))
       go (Run f n) g = rw g (taken-looked n ls k f a m (sym (childBy-run ls b len k a f n g) ∙ e))
 
@@ -225,7 +225,7 @@ module _ (ls : List ℕ) (b : ℕ → ℕ) (len : ℕ) where
   over-met a none m n = n
   over-met a (some k) m n = go (childrenOf b len k) refl
     where
-      go : (t : Kids) → childrenOf b len k ≡ t → In m (siblingsAt ls b len (some k))
+      go : (t : Children) → childrenOf b len k ≡ t → In m (siblingsAt ls b len (some k))
       go NoNode e = rw e (rw e at n)
       go (Run f c) e = rw e (counted-looked c ls k f a m (rw e at n))
 

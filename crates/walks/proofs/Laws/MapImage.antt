@@ -25,7 +25,7 @@ use Rattle.keymap.specs.Paths.{nodes, IsNode, isNode, pathOf}
 use Rattle.keymap.specs.Decode.{imageMap}
 use Rattle.keymap.proofs.Laws.Image.{length-imageLabels, length-imageValues}
 use Rattle.keymap.proofs.Laws.Paths.{labels-node, values-node}
-use Rattle.louds.specs.declared.Kids.the-variants.{Run}
+use Rattle.louds.specs.declared.answers.Children.the-variants.{Run}
 use Rattle.louds.specs.Nodes.{childrenOf}
 use Rattle.louds.proofs.Laws.MapNodes.{mapBits, mapLength, ChildrenOf}
 use Rattle.image.specs.Accept.{entries}

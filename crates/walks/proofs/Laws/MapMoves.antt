@@ -23,7 +23,7 @@ use Rattle.louds.proofs.Laws.Nodes.{children-told}
 use Rattle.louds.proofs.Laws.MapNodes.{ChildrenOf, children-node}
 use Rattle.image.specs.Accept.{entries}
 use Rattle.image.specs.Meaning.{MapImage}
-use Rattle.walks.specs.declared.stands.Children.{Children}
+use Rattle.walks.specs.declared.answers.Kids.{Kids}
 use Rattle.walks.specs.Stands.{standAt, kidsFrom, kidFrom, downFrom, reachedAt}
 use Rattle.walks.specs.MapNodes.{nodeAt}
 use Rattle.walks.proofs.Laws.Stands.{kids-rule, kid-rule, down-rule}
@@ -54,9 +54,9 @@ module _ (i : Image) (h : MapImage i) where
       let (p, run) = children-told b small len k (d .first) (degree m (pathOf m k)) (run-node i h k n d) in
       let kids = kids-rule b small len k p (run .answer) in
       record {
-        first-is = ap (λ (c : Children). c .first) kids ∙ sym (run .starts);
-        count-is = ap (λ (c : Children). c .count) kids ∙ sym (run .size);
-        kids-at = λ j l. ap (λ (c : Children). kidFrom b len k (c .next) (d .first + j)) kids ∙ kid-rule b small len k p (d .first + j) (run .answer) (kid i h k n d j l .child .above);
+        first-is = ap (λ (c : Kids). c .first) kids ∙ sym (run .starts);
+        count-is = ap (λ (c : Kids). c .count) kids ∙ sym (run .size);
+        kids-at = λ j l. ap (λ (c : Kids). kidFrom b len k (c .next) (d .first + j)) kids ∙ kid-rule b small len k p (d .first + j) (run .answer) (kid i h k n d j l .child .above);
       }
 
   pub kids-some : (k : ℕ) → IsNode (imageMap i) k

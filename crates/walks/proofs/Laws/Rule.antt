@@ -26,7 +26,7 @@ use lib.Dec.{eqb, leb}
 use borrow.Author.Tests.{lt-ltb, le-ltb, le-leb, lt-leb, eq-eqb, eqb-true}
 use Rattle.keymap.specs.Key.{Key}
 use Rattle.keymap.specs.Label.{mark, labelIn}
-use Rattle.louds.specs.declared.Kids.the-variants.{Run, NoNode}
+use Rattle.louds.specs.declared.answers.Children.the-variants.{Run, NoNode}
 use Rattle.louds.specs.Nodes.{childrenOf}
 use Rattle.walks.specs.Rule.{isNodeOf, countsTo, matches, isChildBy, lowestBy, childBy, stepBy, walkedFrom, valueOfNode}
 

@@ -4,6 +4,7 @@
 --     kidsFrom-none, kidsFrom-some    the children of a stand, by that test
 --     kids-numbered                   their numbers
 --     kids-rule                       they are the node's
+--     kids-lost, kids-run             the same by what louds answers of the node, and where the zero behind them is
 --     zero-near                       a zero from a place on, by the zeros before that
 --     kid-rule                        the stand at a child
 --     down-rule, along-rule           one step down, and all steps of a query
@@ -22,19 +23,20 @@ use lib.Dec.{ltb, leb}
 use lib.ListN.{length, getD, drop}
 use lib.Seq.{drop-cons}
 use borrow.Author.Tests.{lt-ltb, le-ltb, le-leb, lt-leb, ltb-true, leb-true}
-use Rattle.louds.specs.declared.Spot.{Spot}
-use Rattle.louds.specs.declared.Spot.the-variants.{At, Missing}
+use Rattle.louds.specs.declared.answers.Spot.{Spot}
+use Rattle.louds.specs.declared.answers.Spot.the-variants.{At, Missing}
+use Rattle.louds.specs.declared.answers.Children.the-variants.{Run, NoNode}
 use Rattle.louds.specs.Rank.{gap}
 use Rattle.louds.specs.Select.{kth, onward, zeroAt, zeroFrom}
-use Rattle.louds.specs.Nodes.{orEnd}
+use Rattle.louds.specs.Nodes.{orEnd, childrenOf}
 use Rattle.louds.proofs.Laws.Rank.{gap-small, ones-zeros}
 use Rattle.louds.proofs.Laws.Select.{Stands, kth-zero, kth-told, onward-before, rank-kth, kth-missing, kth-next, kth-onward}
-use Rattle.louds.proofs.Laws.Nodes.{children-none, children-at}
+use Rattle.louds.proofs.Laws.Nodes.{children-none, children-at, children-told}
 use Rattle.keymap.specs.Key.{Key}
 use Rattle.keymap.specs.Bits.{sumBelow}
 use Rattle.keymap.proofs.Laws.Sums.{sumBelow-mono, sumBelow-next}
 use Rattle.walks.specs.declared.stands.Stand.{Stand}
-use Rattle.walks.specs.declared.stands.Children.{Children}
+use Rattle.walks.specs.declared.answers.Kids.{Kids}
 use Rattle.walks.specs.declared.entries.Child.the-variants.{Node, Absent}
 use Rattle.walks.specs.declared.entries.Held.the-variants.{Value, NoValue}
 use Rattle.walks.specs.declared.moves.Reached.{Reached}
@@ -125,13 +127,13 @@ kids-numbered b len s = go (isStand len (s .node) (s .zero)) refl
     go true e =
         let t = isStand-told len (s .node) (s .zero) e in
         let r = kidsFrom-some b len s e in
-        let first : kidsFrom b len s .first ≡ s .zero + 1 - (s .node - 1) = ap (λ (c : Children). c .first) r in
-        let count : kidsFrom b len s .count ≡ nextZero b len (s .zero) - (s .zero + 1) = ap (λ (c : Children). c .count) r in
+        let first : kidsFrom b len s .first ≡ s .zero + 1 - (s .node - 1) = ap (λ (c : Kids). c .first) r in
+        let count : kidsFrom b len s .count ≡ nextZero b len (s .zero) - (s .zero + 1) = ap (λ (c : Kids). c .count) r in
         record { bare = λ z. absurd (omega (arith, z, first, t)); within = omega (arith, first, count, t, nextZero-within b len (s .zero)) }
     go false e =
         let r = kidsFrom-none b len s e in
-        let first : kidsFrom b len s .first ≡ 0 = ap (λ (c : Children). c .first) r in
-        let count : kidsFrom b len s .count ≡ 0 = ap (λ (c : Children). c .count) r in
+        let first : kidsFrom b len s .first ≡ 0 = ap (λ (c : Kids). c .first) r in
+        let count : kidsFrom b len s .count ≡ 0 = ap (λ (c : Kids). c .count) r in
         record { bare = λ z. count; within = omega (arith, first, count) }
 
 -- ---- a stand that knows its zero
@@ -190,6 +192,29 @@ module _ (b : ℕ → ℕ) (small : (i : ℕ) → b i ≤ 1) (len : ℕ) where
       ∙ kidsFrom-some b len s (h .test)
       ∙ (λ x. record { first = p + 1 - (k - 1); count = h .next x - (p + 1); next = h .next x })
 
+  pub kids-lost : (k : ℕ) → childrenOf b len k ≡ NoNode → kidsFrom b len (standAt b len k) ≡ record { first = 0; count = 0; next = len }
+  kids-lost k e = go (zeroAt b len k) refl
+    where
+      go : (t : Spot) → zeroAt b len k ≡ t → kidsFrom b len (standAt b len k) ≡ record { first = 0; count = 0; next = len }
+      go (At p) f = let r = children-at b small len k p f in let z : _≡_ {A = ℕ} 0 1 = cc in absurd (omega arith)
+      go Missing f = lost k f
+
+  -- before the zero behind them, or the end, stand the ones of all numbers up to their last, and the zeros of k nodes
+  pub record RunTold (k f c : ℕ) : Type 0 where
+    pub kids : kidsFrom b len (standAt b len k) ≡ record { first = f; count = c; next = k + f + c - 1 }
+    pub within : k + f + c ≤ len + 1
+
+  pub kids-run : (k f c : ℕ) → childrenOf b len k ≡ Run f c → RunTold k f c
+  kids-run k f c e =
+      let (p, r) = children-told b small len k f c e in
+      let h = here k p (r .answer) in
+      let stop : ℕ = orEnd len (zeroAt b len (k + 1)) in
+      let next : stop ≡ k + f + c - 1 = omega (arith, r .starts, r .size, h .rank, h .next, nextZero-ahead b len p (h .inside), ones-zeros b small p) in
+      record {
+        kids = kids-rule k p (r .answer) ∙ (λ x. record { first = sym (r .starts) x; count = sym (r .size) x; next = next x });
+        within = omega (arith, next, h .next, nextZero-within b len p);
+      }
+
   -- the child m of k, from the zero behind k's children on
   pub kid-rule : (k p m : ℕ) → zeroAt b len k ≡ At p → k < m → kidFrom b len k (orEnd len (zeroAt b len (k + 1))) m ≡ standAt b len m
   unfolding kidFrom
@@ -214,11 +239,11 @@ module _ (b : ℕ → ℕ) (small : (i : ℕ) → b i ≤ 1) (len : ℕ) where
           let next : ℕ = orEnd len (zeroAt b len (k + 1)) in
           let first : ℕ = p + 1 - (k - 1) in
           let count : ℕ = next - (p + 1) in
-          ap (λ (c : Children). toKid b len k (c .next) (lowestBy ls k (c .count) (c .first) a)) (kids-rule k p e)
+          ap (λ (c : Kids). toKid b len k (c .next) (lowestBy ls k (c .count) (c .first) a)) (kids-rule k p e)
           ∙ kid p count first e (lowestBy ls k count first a) (lowest-told count ls k first a)
           ∙ ap (reachedAt b len) (sym (childBy-run ls b len k a first count (children-at b small len k p e)))
       go Missing e =
-          ap (λ (c : Children). toKid b len k (c .next) (lowestBy ls k (c .count) (c .first) a)) (lost k e)
+          ap (λ (c : Kids). toKid b len k (c .next) (lowestBy ls k (c .count) (c .first) a)) (lost k e)
           ∙ ap (toKid b len k len) (lowestBy-end ls k 0 a)
           ∙ ap (reachedAt b len) (sym (childBy-none ls b len k a (children-none b len k e)))
 

@@ -6,7 +6,7 @@ use mathlib.Core.Bool.{true}
 use borrow.Author.Needs.{needs}
 use borrow.Author.Tests.{not-true, not-false}
 use Rattle.keymap.specs.Bits.{bit}
-use Rattle.louds.specs.declared.Spot.the-variants.{At}
+use Rattle.louds.specs.declared.answers.Spot.the-variants.{At}
 use Rattle.louds.specs.Select.{zeroFrom}
 use Rattle.climbs.specs.Order.{oneBehind}
 use Rattle.climbs.specs.Moves.{leads}

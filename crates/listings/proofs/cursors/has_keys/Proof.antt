@@ -4,7 +4,7 @@ use mathlib.Core.Bool.{Bool}
 use lib.Dec.{ltb}
 use borrow.Author.Needs.{needs}
 use Rattle.keymap.specs.Bits.{bit}
-use Rattle.walks.specs.declared.stands.Children.{Children}
+use Rattle.walks.specs.declared.answers.Kids.{Kids}
 use Rattle.listings.specs.declared.answers.Kind.{Kind}
 use Rattle.listings.specs.Numbers.{hasKeysBy}
 use Rattle.listings.proofs.cursors.has_keys.Statement.{statement}
@@ -28,7 +28,7 @@ returns c = sym (ap (hasKeys (c .before .before .before .before)) (c .enum-told 
 
 returns-2 : tie.Need-returns-2
 returns-2 c =
-    ap (λ (k : Children). ltb 0 (k .count)) (c .before .kids .ensures)
+    ap (λ (k : Kids). ltb 0 (k .count)) (c .before .kids .ensures)
     ∙ sym (ap (hasKeys (c .before .before .before .before .before .before)) (c .before .before .enum-told2 .given .1))
 
 pub has-keys-spec : {M : Type 1} → statement M

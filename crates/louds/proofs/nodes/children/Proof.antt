@@ -6,8 +6,8 @@ use native.Mathlib.Omega.{arith}
 use borrow.Author.Needs.{needs}
 use Rattle.keymap.specs.Bits.{bit}
 use Rattle.keymap.proofs.Laws.Bits.{bit-small}
-use Rattle.louds.specs.declared.Spot.{Spot}
-use Rattle.louds.specs.declared.Spot.the-variants.{At}
+use Rattle.louds.specs.declared.answers.Spot.{Spot}
+use Rattle.louds.specs.declared.answers.Spot.the-variants.{At}
 use Rattle.louds.specs.Rank.{gap}
 use Rattle.louds.specs.Select.{zeroAt}
 use Rattle.louds.proofs.Laws.Rank.{gap-small, ones-zeros}

@@ -4,7 +4,7 @@ use native.Mathlib.Omega.{arith}
 use borrow.Author.Needs.{needs}
 use Rattle.keymap.specs.Bits.{bit}
 use Rattle.keymap.proofs.Laws.Bits.{bit-small}
-use Rattle.louds.specs.declared.Spot.the-variants.{At}
+use Rattle.louds.specs.declared.answers.Spot.the-variants.{At}
 use Rattle.louds.specs.Select.{oneAt}
 use Rattle.louds.proofs.Laws.Rank.{ones-zeros}
 use Rattle.louds.proofs.Laws.Select.{Stands, rank-kth}

@@ -5,7 +5,7 @@ use native.Mathlib.Omega.{arith}
 use borrow.Author.Needs.{needs}
 use Rattle.keymap.specs.Limits.{wordBits}
 use Rattle.keymap.specs.Bits.{bit}
-use Rattle.louds.specs.declared.Spot.the-variants.{At}
+use Rattle.louds.specs.declared.answers.Spot.the-variants.{At}
 use Rattle.louds.specs.Digits.{digit}
 use Rattle.louds.specs.Select.{kth, onward}
 use Rattle.louds.proofs.Laws.Select.{marks-zero}

@@ -4,7 +4,7 @@ use Prim.Native.Nat.{ℕ, _+_, _-_, _*_, _/_, _^_, _≤_, _<_}
 use native.Mathlib.Omega.{arith}
 use borrow.Author.Needs.{needs}
 use Rattle.keymap.specs.Limits.{wordBits}
-use Rattle.louds.specs.declared.Spot.the-variants.{At}
+use Rattle.louds.specs.declared.answers.Spot.the-variants.{At}
 use Rattle.louds.specs.Digits.{digit}
 use Rattle.louds.specs.Nodes.{orEnd}
 use Rattle.louds.specs.Taking.{lowBits, topBits}

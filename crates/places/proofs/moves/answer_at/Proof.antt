@@ -4,7 +4,7 @@ use native.Mathlib.Omega.{arith}
 use borrow.Author.Needs.{needs}
 use Rattle.keymap.specs.Image.{Image}
 use Rattle.image.specs.Meaning.{imageIn}
-use Rattle.walks.specs.declared.stands.Children.{Children}
+use Rattle.walks.specs.declared.answers.Kids.{Kids}
 use Rattle.walks.proofs.Laws.Stands.{heldOf-value, heldOf-none}
 use Rattle.places.specs.Moves.{countFrom}
 use Rattle.places.proofs.Laws.Moves.{answer-leaf, answer-inner}
@@ -26,7 +26,7 @@ kids-requires c κs = search needs
 returns : tie.Need-returns
 returns c =
     let start = c .before .before .before .before .before .before in
-    let count = ap (λ (k : Children). k .count) (c .before .before .kids .ensures) in
+    let count = ap (λ (k : Kids). k .count) (c .before .before .kids .ensures) in
     sym (answer-leaf (imageAt start) (start .args .s) (omega (arith, count)))
 
 value-at-requires : tie.Need-value-at-requires
@@ -40,7 +40,7 @@ enum-told-2 c = c .match .keys2
 
 -- past the test there are children
 some-kids : (c : tie.Else1) → ¬ (countFrom (imageAt (c .before .before .before .before .before .before)) (c .before .before .before .before .before .before .args .s) ≡ 0)
-some-kids c e = let count = ap (λ (k : Children). k .count) (c .before .before .kids .ensures) in omega (arith, count)
+some-kids c e = let count = ap (λ (k : Kids). k .count) (c .before .before .kids .ensures) in omega (arith, count)
 
 returns-2 : tie.Need-returns-2
 returns-2 c =

@@ -7,7 +7,7 @@ use lib.ListN.{length}
 use Rattle.keymap.specs.Bits.{bit}
 use Rattle.keymap.specs.Image.{Image, bitsFor}
 use Rattle.image.specs.Meaning.{asImage}
-use Rattle.walks.specs.declared.stands.Children.{Children}
+use Rattle.walks.specs.declared.answers.Kids.{Kids}
 use Rattle.walks.specs.Stands.{kidsFrom}
 use Rattle.walks.proofs.Laws.Stands.{reachedAt-to, reachedAt-lost}
 use Rattle.searches.proofs.Laws.Exact.{goesOn-lost, goesOn-ended}
@@ -48,7 +48,7 @@ returns-2 c =
     let len = bitsFor (length (a .labels .now)) in
     let s = c .before .before .before .s in
     let end = reachedAt-to b len _ _ (sym (c .before .before .before .before .before .walk .ensures) ∙ s .given .1) in
-    ap (λ (k : Children). ltb 0 (k .count)) (c .before .kids .ensures ∙ ap (kidsFrom b len) (end .knows)) ∙ sym (goesOn-ended (imageAt start) (a .query .now) _ (end .node))
+    ap (λ (k : Kids). ltb 0 (k .count)) (c .before .kids .ensures ∙ ap (kidsFrom b len) (end .knows)) ∙ sym (goesOn-ended (imageAt start) (a .query .now) _ (end .node))
 
 pub goes-on-spec : {M : Type 1} → statement M
 goes-on-spec =

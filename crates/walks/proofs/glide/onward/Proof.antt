@@ -5,7 +5,7 @@ use lib.ListN.{length}
 use borrow.Author.Needs.{needs}
 use borrow.Author.Tests.{not-true, not-false}
 use Rattle.keymap.specs.Bits.{bit}
-use Rattle.walks.specs.declared.stands.Children.{Children}
+use Rattle.walks.specs.declared.answers.Kids.{Kids}
 use Rattle.walks.specs.declared.moves.Reached.the-variants.{To}
 use Rattle.walks.specs.Rule.{counts, valueOfNode}
 use Rattle.walks.specs.Stands.{kidFrom}
@@ -48,7 +48,7 @@ returns-2 c =
     sym
     (onward-stops (a .labels .now) (a .values .now) b (a .len) (a .s)
     (through-parted (a .labels .now) (a .values .now) b (a .len) (a .s) (bare (c .before .before .before))
-    (λ one. c .if1 .taken (ap (λ (k : Children). k .count) (c .before .before .kids .ensures) ∙ one))))
+    (λ one. c .if1 .taken (ap (λ (k : Kids). k .count) (c .before .before .kids .ensures) ∙ one))))
 
 add-counts-to : tie.Need-add-counts-to
 add-counts-to c = search needs
@@ -63,9 +63,9 @@ tested : (c : tie.After-counts-to)
 tested c =
     let a = c .before .before .before .before .before .before .before .before .before .before .args in
     let run = c .before .before .before .kids .ensures in
-    let one = sym (ap (λ (k : Children). k .count) run) ∙ c .before .if1 .left in
+    let one = sym (ap (λ (k : Kids). k .count) run) ∙ c .before .if1 .left in
     through-kid (a .labels .now) (a .values .now) (bit (a .words .now)) (a .len) (a .s) (bare (c .before .before .before .before)) one
-    ∙ ap (λ (k : Children). counts (length (a .labels .now)) (a .s .node) (k .first)) (sym run)
+    ∙ ap (λ (k : Kids). counts (length (a .labels .now)) (a .s .node) (k .first)) (sym run)
     ∙ sym (c .counts-to .ensures)
 
 returns-3 : tie.Need-returns-3
@@ -81,7 +81,7 @@ returns-4 c =
     let a = c .before .before .before .before .before .before .before .before .before .before .before .before .args in
     let b = bit (a .words .now) in
     let run = c .before .before .before .before .before .kids .ensures in
-    ap To (c .kid-at .ensures ∙ ap (λ (k : Children). kidFrom b (a .len) (a .s .node) (k .next) (k .first)) run)
+    ap To (c .kid-at .ensures ∙ ap (λ (k : Kids). kidFrom b (a .len) (a .s .node) (k .next) (k .first)) run)
     ∙ sym (onward-goes (a .labels .now) (a .values .now) b (a .len) (a .s) (tested (c .before .before) ∙ not-false _ (c .before .if2 .left)))
 
 pub onward-spec : {M : Type 1} → statement M

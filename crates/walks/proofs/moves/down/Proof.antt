@@ -5,7 +5,7 @@ use native.Mathlib.Omega.{arith}
 use borrow.Author.Needs.{needs}
 use Rattle.keymap.specs.Bits.{bit}
 use Rattle.walks.specs.declared.entries.Child.{Child}
-use Rattle.walks.specs.declared.stands.Children.{Children}
+use Rattle.walks.specs.declared.answers.Kids.{Kids}
 use Rattle.walks.specs.declared.moves.Reached.the-variants.{To}
 use Rattle.walks.specs.Rule.{lowestBy}
 use Rattle.walks.specs.Stands.{kidsFrom, kidFrom, childOf, downFrom}
@@ -17,20 +17,20 @@ use Rattle.walks.proofs.moves.down.Tie as tie
 kids-requires : tie.Need-kids-requires
 kids-requires c κs = search needs
 
-abbrev kidsAt : tie.Start → Children
+abbrev kidsAt : tie.Start → Kids
 kidsAt start = kidsFrom (bit (start .args .words .now)) (start .args .len) (start .args .s)
 
 -- the numbers of the children that were told
 numbered : (c : tie.After-kids) → Numbered (c .kids .result .first) (c .kids .result .count) (c .before .before .before .args .len)
 numbered c =
     let a = c .before .before .before .args in
-    subst (λ (k : Children). Numbered (k .first) (k .count) (a .len)) (sym (c .kids .ensures)) (kids-numbered (bit (a .words .now)) (a .len) (a .s))
+    subst (λ (k : Kids). Numbered (k .first) (k .count) (a .len)) (sym (c .kids .ensures)) (kids-numbered (bit (a .words .now)) (a .len) (a .s))
 
 returns : tie.Need-returns
 returns c =
     let a = c .before .before .before .before .before .args in
     let run = c .before .before .kids .ensures in
-    let none-there : kidsAt (c .before .before .before .before .before) .count ≡ 0 = ap (λ (k : Children). k .count) (sym run) ∙ numbered (c .before .before) .bare (c .if1 .taken) in
+    let none-there : kidsAt (c .before .before .before .before .before) .count ≡ 0 = ap (λ (k : Kids). k .count) (sym run) ∙ numbered (c .before .before) .bare (c .if1 .taken) in
     sym
     (downFrom-absent (a .labels .now) (bit (a .words .now)) (a .len) (a .s) (a .label)
     (ap (λ (n : ℕ). lowestBy (a .labels .now) (a .s .node) n (kidsAt (c .before .before .before .before .before) .first) (a .label)) none-there
@@ -66,7 +66,7 @@ looked c t e =
     let some-first = c .before .before .before .if1 .left in
     let count : k .first - 1 + k .count - (k .first - 1) ≡ k .count = omega arith in
     let first : k .first - 1 + 1 ≡ k .first = omega (arith, some-first) in
-    ap₂ (λ (n m : ℕ). childOf (lowestBy (a .labels .now) (a .s .node) n m (a .label))) (ap (λ (x : Children). x .count) (sym run) ∙ sym count) (ap (λ (x : Children). x .first) (sym run) ∙ sym first)
+    ap₂ (λ (n m : ℕ). childOf (lowestBy (a .labels .now) (a .s .node) n m (a .label))) (ap (λ (x : Kids). x .count) (sym run) ∙ sym count) (ap (λ (x : Kids). x .first) (sym run) ∙ sym first)
     ∙ sym (c .child-within .ensures)
     ∙ e
 
@@ -78,7 +78,7 @@ returns-2 c =
     let run = c .before .before .before .before .before .before .before .before .before .kids .ensures in
     let m = c .before .before .m .given in
     let there = childOf-node (lowestBy (a .labels .now) (a .s .node) (kidsAt start .count) (kidsAt start .first) (a .label)) _ (looked (c .before .before .before .before) _ (m .1)) in
-    ap To (c .kid-at .ensures ∙ ap (λ (k : Children). kidFrom b (a .len) (a .s .node) (k .next) (m .0 .0)) run)
+    ap To (c .kid-at .ensures ∙ ap (λ (k : Kids). kidFrom b (a .len) (a .s .node) (k .next) (m .0 .0)) run)
     ∙ sym (downFrom-there (a .labels .now) b (a .len) (a .s) (a .label) _ there)
 
 returns-3 : tie.Need-returns-3

@@ -3,16 +3,14 @@ ghost use mathlib.Core.Path.{_≡_};
 ghost use Prim.Native.Nat.{_+_, _≤_};
 ghost use mathlib.Core.List.{[], _∷_};
 ghost use lib.ListN.{drop};
-ghost use Rattle.pool.specs.Answers.{saidPushed};
 ghost use Rattle.lines.specs.TabLine.{tabEntry};
 ghost use Rattle.lines.specs.Text.{linesOf, entryLines};
 ghost use Rattle.catalogue.specs.Filling.{saidFilled, lineSays, linePool, fillFrom, leftFrom, fillPool, HeldIf};
 ghost use Rattle.catalogue.specs.TextAnswers.{textFrom};
 ghost use Rattle.catalogue.specs.Limits.{programCapacity};
-use crate::POOL_WORDS;
+use crate::sizes::POOL_WORDS;
 use lines::answers::Cut;
 use lines::answers::Parsed;
-use pool::answers::Pushed;
 
 pub enum Filled {
     // Every line is pushed.
@@ -57,22 +55,10 @@ fn push_line(line: &[u8], pool: &mut [u32]) -> u32
     ensures answer { λ r. ⌜ r ∷ [] ≡ lineSays (now (pool .entry)) (tabEntry (now (line .entry))) ⌝ }
     ensures left { λ _. ⌜ now (pool .exit) ≡ linePool (now (pool .entry)) (tabEntry (now (line .entry))) ⌝ }
 {
-    match lines::tab_line(line) {
-        Parsed::Entry { key_len: _, number } => {
-            push_number(pool::push(pool, lines::tab_line_key(line), number))
-        }
-        Parsed::BadLine => 9,
-    }
-}
-
-fn push_number(pushed: Pushed) -> u32
-    ensures { λ r. ⌜ r ∷ [] ≡ saidPushed pushed ⌝ }
-{
-    match pushed {
-        Pushed::Done => 0,
-        Pushed::PoolTooSmall => 1,
-        Pushed::NotAPool => 2,
-        Pushed::EmptyKey => 3,
-        Pushed::NoRoom => 4,
-    }
+    let parsed = lines::tab_line(line);
+    let Parsed::Entry { key_len: _, number } = parsed else {
+        return parsed.number();
+    };
+    let pushed = pool::push(pool, lines::tab_line_key(line), number);
+    pushed.number()
 }

@@ -4,6 +4,7 @@ mod filling;
 mod listing;
 mod putting;
 pub mod reading;
+mod sizes;
 
 ghost use mathlib.Core.Path.{_≡_};
 ghost use lib.ListN.{length};
@@ -18,25 +19,12 @@ use crate::listing::list_pool;
 use crate::putting::put_refused;
 use crate::putting::put_text;
 use crate::reading::Reading;
-use records::words::RECORD_WORDS;
-
-// The longest file that is taken.
-pub const FILE_LIMIT: usize = 65536;
-
-// One byte more, so that a longer file is seen.
-pub const FILE_ROOM: usize = FILE_LIMIT + 1;
-
-// The records besides the root.
-pub const CAPACITY: usize = 2048;
-
-// Five words for each record, the root's among them.
-pub const POOL_WORDS: usize = RECORD_WORDS * (CAPACITY + 1);
-
-// The words of 2 * CAPACITY + 3 bits.
-pub const IMAGE_WORDS: usize = (2 * CAPACITY + 66) / 64;
-
-// A listing is at most one byte longer than its file: the last LF may be absent there.
-pub const OUT_ROOM: usize = FILE_LIMIT + 1;
+pub use sizes::CAPACITY;
+pub use sizes::FILE_LIMIT;
+pub use sizes::FILE_ROOM;
+pub use sizes::IMAGE_WORDS;
+pub use sizes::OUT_ROOM;
+pub use sizes::POOL_WORDS;
 
 // Puts what the program writes of a file at the start of `out` and answers how many bytes that is. The file's bytes stand at the start of `text`.
 pub fn answer(

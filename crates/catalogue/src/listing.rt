@@ -40,12 +40,11 @@ pub fn list_pool(
     let Built::Nodes(n) = image::build(pool, labels, values, words, scratch) else {
         return 0;
     };
-    // 2n + 3 bits in words of 64.
     let nodes = n as usize;
     list_image(
         &labels[..nodes],
         &values[..nodes],
-        &words[..(2 * nodes + 66) / 64],
+        &words[..image::words_for(n)],
         out,
     )
 }

@@ -2,7 +2,7 @@
 // a negative count is a read that failed, 0 is the file's end, and a room that is full is that of a file which is too long.
 ghost use mathlib.Core.Path.{_≡_};
 ghost use Rattle.catalogue.specs.Reading.{nothingRead, nextAt, takeRead};
-use crate::FILE_ROOM;
+use crate::sizes::FILE_ROOM;
 
 // How far a file is read. Nothing outside this crate can make one but by the calls below.
 pub struct Reading {

@@ -9,6 +9,12 @@ use Rattle.image.proofs.acceptance.lengths_fit
 use Rattle.image.proofs.acceptance.lengths_fit.Reads as lengths-fit-reads
 use Rattle.image.proofs.build
 use Rattle.image.proofs.build.Reads as build-reads
+use Rattle.image.proofs.answers.Checked.number as checked-number
+use Rattle.image.proofs.answers.Checked.number.Reads as checked-number-reads
+use Rattle.image.proofs.answers.Built.number as built-number
+use Rattle.image.proofs.answers.Built.number.Reads as built-number-reads
+use Rattle.image.proofs.buffers.words_for as words-for
+use Rattle.image.proofs.buffers.words_for.Reads as words-for-reads
 
 pub accept-asks-nothing : (κs : Lfts 3) (a : ArgsD accept.signature κs) → accept-reads.Pre κs a
 accept-asks-nothing κs a = tt
@@ -21,3 +27,12 @@ build-asks-nothing κs a = tt
 
 pub lengths-fit-asks-nothing : (κs : Lfts 3) (a : ArgsD lengths_fit.signature κs) → lengths-fit-reads.Pre κs a
 lengths-fit-asks-nothing κs a = tt
+
+pub checked-number-asks-nothing : (κs : Lfts 0) (a : ArgsD checked-number.signature κs) → checked-number-reads.Pre κs a
+checked-number-asks-nothing κs a = tt
+
+pub built-number-asks-nothing : (κs : Lfts 0) (a : ArgsD built-number.signature κs) → built-number-reads.Pre κs a
+built-number-asks-nothing κs a = tt
+
+pub words-for-asks-nothing : (κs : Lfts 0) (a : ArgsD words-for.signature κs) → words-for-reads.Pre κs a
+words-for-asks-nothing κs a = tt

@@ -3,6 +3,9 @@
 use mathlib.Core.Path.{_≡_}
 use denote.Ref.{now}
 use Rattle.keymap.specs.Contract.{Tells}
+use Rattle.keymap.specs.Answers.{answerNumber}
+use Rattle.keymap.specs.Bits.{wordsFor}
+use Rattle.keymap.specs.Image.{bitsFor}
 use mathlib.Core.Logic.{_↔_}
 use mathlib.Core.List.{[], _∷_}
 use Rattle.image.specs.Accept.{OfMap}
@@ -18,6 +21,12 @@ use Rattle.image.proofs.accept.Kinds as accept-kinds
 use Rattle.image.proofs.accept.Reads as accept-reads
 use Rattle.image.proofs.build.Kinds as build-kinds
 use Rattle.image.proofs.build.Reads as build-reads
+use Rattle.image.proofs.answers.Checked.number.Kinds as checked-number-kinds
+use Rattle.image.proofs.answers.Checked.number.Reads as checked-number-reads
+use Rattle.image.proofs.answers.Built.number.Kinds as built-number-kinds
+use Rattle.image.proofs.answers.Built.number.Reads as built-number-reads
+use Rattle.image.proofs.buffers.words_for.Kinds as words-for-kinds
+use Rattle.image.proofs.buffers.words_for.Reads as words-for-reads
 
 pub is-image-says : Tells 3 is-image-kinds.ps is-image-kinds.r is-image-reads.Post (λ κs a r s. r ≡ imageTest (imageIn (a .0) (a .1 .0) (a .1 .1 .0)))
 is-image-says κs a r s p = p
@@ -35,3 +44,12 @@ pub build-says : Tells 5 build-kinds.ps build-kinds.r build-reads.Post (λ κs a
     × (now (s .1 .1 .1 .0) ≡ buildWords (now (a .0)) (now (a .1 .0)) (now (a .1 .1 .0)) (now (a .1 .1 .1 .0)) (now (a .1 .1 .1 .1 .0)))
     × (now (s .1 .1 .1 .1 .0) ≡ buildScratch (now (a .0)) (now (a .1 .0)) (now (a .1 .1 .0)) (now (a .1 .1 .1 .0)) (now (a .1 .1 .1 .1 .0))))
 build-says κs a r s p = (p .0, p .1 .0, p .1 .1 .0, p .1 .1 .1 .0, p .1 .1 .1 .1)
+
+pub checked-number-says : Tells 0 checked-number-kinds.ps checked-number-kinds.r checked-number-reads.Post (λ κs a r s. r ≡ answerNumber (saidChecked (a .0)))
+checked-number-says κs a r s p = p
+
+pub built-number-says : Tells 0 built-number-kinds.ps built-number-kinds.r built-number-reads.Post (λ κs a r s. r ≡ answerNumber (saidBuilt (a .0)))
+built-number-says κs a r s p = p
+
+pub words-for-says : Tells 0 words-for-kinds.ps words-for-kinds.r words-for-reads.Post (λ κs a r s. r ≡ wordsFor (bitsFor (a .0)))
+words-for-says κs a r s p = p

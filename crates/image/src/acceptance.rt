@@ -1,5 +1,7 @@
 // The image test: are these slices the image of some map? One pass over the entries and two over the words, linear in n, with no memory of its own;
 // it ends on any words.
+use crate::buffers::words_for;
+use crate::entries::MARK;
 use crate::word_test::words_fit;
 use louds::WORD_BITS;
 use louds::ones_before;
@@ -14,8 +16,6 @@ ghost use Rattle.image.specs.Meaning.{lentImage};
 ghost use Rattle.image.specs.AcceptTest.{passesFrom, lengthsFit, imageTest};
 ghost use Rattle.image.specs.WordTest.{entriesFit, Framed};
 
-// What a value adds to its label.
-pub const MARK: u16 = records::words::MARK as u16;
 // An image has no more nodes besides the root.
 const MOST_NODES: usize = MOST_RECORDS as usize;
 
@@ -73,7 +73,7 @@ pub fn lengths_fit(labels: &[u16], values: &[u32], words: &[u64]) -> bool
     if values.len() != n {
         return false;
     }
-    words.len() == (2 * n + 3 + (WORD_BITS - 1)) / WORD_BITS
+    words.len() == words_for(n as u32)
 }
 
 // Whether the slices are the image of some map.

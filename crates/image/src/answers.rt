@@ -1,4 +1,8 @@
 // What the calls answer.
+ghost use mathlib.Core.Path.{_≡_};
+ghost use Rattle.keymap.specs.Answers.{answerNumber};
+ghost use Rattle.image.specs.AcceptAnswer.{saidChecked};
+ghost use Rattle.image.specs.Build.{saidBuilt};
 
 // Of lent slices.
 pub enum Checked {
@@ -6,6 +10,18 @@ pub enum Checked {
     Accepted,
     // None has: refusal 6.
     NotAnImage,
+}
+
+impl Checked {
+    // The number of a refusal, 0 where there is none.
+    pub fn number(self) -> u32
+        ensures { λ r. ⌜ r ≡ answerNumber (saidChecked self) ⌝ }
+    {
+        match self {
+            Checked::Accepted => 0,
+            Checked::NotAnImage => 6,
+        }
+    }
 }
 
 // Of build. A refusal writes nothing.
@@ -18,4 +34,18 @@ pub enum Built {
     NotAPool,
     // A buffer is shorter than needed.
     OutTooSmall,
+}
+
+impl Built {
+    // The number of a refusal, 0 where there is none.
+    pub fn number(self) -> u32
+        ensures { λ r. ⌜ r ≡ answerNumber (saidBuilt self) ⌝ }
+    {
+        match self {
+            Built::Nodes(_) => 0,
+            Built::PoolTooSmall => 1,
+            Built::NotAPool => 2,
+            Built::OutTooSmall => 5,
+        }
+    }
 }

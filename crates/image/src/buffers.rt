@@ -1,4 +1,4 @@
-// What build needs of its buffers.
+// How long the buffers of an image are.
 use louds::WORD_BITS;
 ghost use mathlib.Core.Path.{_≡_};
 ghost use Rattle.keymap.specs.Bits.{wordsFor};

@@ -8,6 +8,9 @@ ghost use Rattle.records.specs.Words.{entry, value};
 ghost use Rattle.keymap.specs.Buffers.{over};
 ghost use Rattle.image.specs.Build.{CanTell};
 
+// What a value adds to its label.
+pub const MARK: u16 = records::words::MARK as u16;
+
 // Writes the first n records of a list, each with its label entry and its value.
 pub fn write_entries(pool: &[u32], order: &[u32], n: u32, labels: &mut [u16], values: &mut [u32])
     requires { ⌜ CanTell (now pool) (now order) n (now labels) (now values) ⌝ }

@@ -1,6 +1,6 @@
 // The bits of an image, word by word. Node m is the m-th one, and its parent is the count of zeros before it. A one right after a one is the next
 // sibling of the node before, and a zero right after a zero closes a node without child. Most places of a word are neither, and are passed at once.
-use crate::acceptance::MARK;
+use crate::entries::MARK;
 use louds::WORD_BITS;
 use louds::lowest_one;
 use louds::ones_in;

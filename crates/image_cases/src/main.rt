@@ -7,9 +7,9 @@
 ghost use Prim.Native.Nat.{_≤_};
 use image::answers::Built;
 use image::answers::Checked;
+use replay::counts::of_values;
 use replay::lists::read_list;
 use replay::memory::LONGEST;
-use replay::memory::of_values;
 use replay::memory::show_labels;
 use replay::memory::show_values;
 use replay::memory::show_words;

@@ -4,6 +4,8 @@
 --     saysValue     a value found, or no match
 --     saysFlag      yes, or no
 --     saysWritten   a key that is to be written to a lent buffer, and `writtenTo`: the buffer afterwards
+--     writtenKey    the buffer where there may be no key
+--     answerNumber  the number that an answer begins with: that of a refusal, 0 of every other
 -- Assumes nothing.
 use Prim.Native.Nat.{ℕ}
 use mathlib.Core.Bool.{Bool, true, false, cond}
@@ -33,3 +35,11 @@ saysWritten k out = cond (leb (length k) (length out)) (0 ∷ length k ∷ []) (
 -- the buffer with a key written to its front, as it was where it is shorter
 abbrev pub writtenTo : Key → List ℕ → List ℕ
 writtenTo k out = cond (leb (length k) (length out)) (k ++ drop (length k) out) out
+
+abbrev pub writtenKey : Option Key → List ℕ → List ℕ
+writtenKey none out = out
+writtenKey (some k) out = writtenTo k out
+
+abbrev pub answerNumber : List ℕ → ℕ
+answerNumber [] = 0
+answerNumber (n ∷ ns) = n

@@ -3,6 +3,7 @@
 use mathlib.Core.Path.{_≡_}
 use denote.Ref.{now}
 use Rattle.keymap.specs.Contract.{Tells}
+use Rattle.keymap.specs.Answers.{answerNumber}
 use Rattle.lines.specs.Answers.{saidParsed, saidCut, saidWritten}
 use Rattle.lines.specs.TabLine.{tabLineSays, tabLineKey}
 use Rattle.lines.specs.Text.{nextLineSays}
@@ -15,6 +16,10 @@ use Rattle.lines.proofs.next_line.Kinds as next-line-kinds
 use Rattle.lines.proofs.next_line.Reads as next-line-reads
 use Rattle.lines.proofs.write_line.Kinds as write-line-kinds
 use Rattle.lines.proofs.write_line.Reads as write-line-reads
+use Rattle.lines.proofs.answers.Parsed.number.Kinds as parsed-number-kinds
+use Rattle.lines.proofs.answers.Parsed.number.Reads as parsed-number-reads
+use Rattle.lines.proofs.answers.Written.number.Kinds as written-number-kinds
+use Rattle.lines.proofs.answers.Written.number.Reads as written-number-reads
 
 pub tab-line-says : Tells 1 tab-line-kinds.ps tab-line-kinds.r tab-line-reads.Post (λ κs a r s. saidParsed r ≡ tabLineSays (now (a .0)))
 tab-line-says κs a r s p = p
@@ -27,3 +32,9 @@ next-line-says κs a r s p = p
 
 pub write-line-says : Tells 2 write-line-kinds.ps write-line-kinds.r write-line-reads.Post (λ κs a r s. (saidWritten r ≡ writeLineSays (now (a .0), a .1 .0) (now (a .1 .1 .0))) × (now (s .1 .1 .0) ≡ writeLineOut (now (a .0), a .1 .0) (now (a .1 .1 .0))))
 write-line-says κs a r s p = p
+
+pub parsed-number-says : Tells 0 parsed-number-kinds.ps parsed-number-kinds.r parsed-number-reads.Post (λ κs a r s. r ≡ answerNumber (saidParsed (a .0)))
+parsed-number-says κs a r s p = p
+
+pub written-number-says : Tells 0 written-number-kinds.ps written-number-kinds.r written-number-reads.Post (λ κs a r s. r ≡ answerNumber (saidWritten (a .0)))
+written-number-says κs a r s p = p

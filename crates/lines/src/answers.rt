@@ -1,4 +1,7 @@
 // What the public calls answer.
+ghost use mathlib.Core.Path.{_≡_};
+ghost use Rattle.keymap.specs.Answers.{answerNumber};
+ghost use Rattle.lines.specs.Answers.{saidParsed, saidWritten};
 
 // Of `tab_line`.
 pub enum Parsed {
@@ -6,6 +9,21 @@ pub enum Parsed {
     Entry { key_len: usize, number: u32 },
     // The line breaks the line rule.
     BadLine,
+}
+
+impl Parsed {
+    // The number of a refusal, 0 where there is none.
+    pub fn number(self) -> u32
+        ensures { λ r. ⌜ r ≡ answerNumber (saidParsed self) ⌝ }
+    {
+        match self {
+            Parsed::Entry {
+                key_len: _,
+                number: _,
+            } => 0,
+            Parsed::BadLine => 9,
+        }
+    }
 }
 
 // Of `next_line`.
@@ -22,4 +40,16 @@ pub enum Written {
     Length(usize),
     // The buffer is shorter than the line to be written.
     KeyRoom,
+}
+
+impl Written {
+    // The number of a refusal, 0 where there is none.
+    pub fn number(self) -> u32
+        ensures { λ r. ⌜ r ≡ answerNumber (saidWritten self) ⌝ }
+    {
+        match self {
+            Written::Length(_) => 0,
+            Written::KeyRoom => 8,
+        }
+    }
 }

@@ -11,7 +11,7 @@ use mathlib.Core.List.{List}
 use mathlib.Core.Option.{Option, none, some}
 use lib.ListN.{length, drop}
 use Rattle.keymap.specs.Key.{Key}
-use Rattle.keymap.specs.Answers.{saysWritten, writtenTo}
+use Rattle.keymap.specs.Answers.{saysWritten, writtenKey}
 use Rattle.keymap.specs.Refusals.{refuses, BadPlace}
 use Rattle.keymap.specs.Map.{Map}
 use Rattle.keymap.specs.Image.{Image}
@@ -41,10 +41,6 @@ keyOf m (Finished kind) = none
 abbrev pub saysKey : Option Key → List ℕ → List ℕ
 saysKey none out = refuses BadPlace
 saysKey (some k) out = saysWritten k out
-
-abbrev pub writtenKey : Option Key → List ℕ → List ℕ
-writtenKey none out = out
-writtenKey (some k) out = writtenTo k out
 
 unfoldable pub keySays : Image → Cursor → List ℕ → List ℕ
 keySays i c out = onImage i (onCursor (imageMap i) c (saysKey (keyOf (imageMap i) c) out))

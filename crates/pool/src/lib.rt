@@ -4,14 +4,14 @@
 // After `src/map/trie_builder.rs` and `src/internal_data_structure/naive_trie/naive_trie_impl.rs`.
 pub mod answers;
 mod path;
+mod pushing;
 mod siblings;
-mod tested;
 mod words;
 
 use crate::answers::Cleared;
 use crate::answers::Counted;
 use crate::answers::Pushed;
-use crate::tested::push_tested;
+use crate::pushing::push_tested;
 use crate::words::fill;
 use records::soundness::is_sound;
 use records::words::RECORD_WORDS;

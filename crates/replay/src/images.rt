@@ -1,7 +1,7 @@
 // The cases of the memory of images: build, what is lent as an image, and what stands in the memory.
-use crate::memory::of_labels;
-use crate::memory::of_values;
-use crate::memory::of_words;
+use crate::counts::of_labels;
+use crate::counts::of_values;
+use crate::counts::of_words;
 use crate::memory::show_labels;
 use crate::memory::show_values;
 use crate::memory::show_words;
@@ -22,7 +22,8 @@ use crate::text::digits;
 use crate::text::hex;
 use crate::text::number as number_of;
 use image::answers::Built;
-use image::answers::Checked;
+ghost use mathlib.Core.Path.{_≡_};
+ghost use Prim.Native.Nat.{_-_};
 
 // How many nodes were built; where build refused, more than there can be.
 fn built(answer: Built) -> u32 {
@@ -31,15 +32,11 @@ fn built(answer: Built) -> u32 {
             number(n as u64);
             n
         }
-        Built::PoolTooSmall => none(1),
-        Built::NotAPool => none(2),
-        Built::OutTooSmall => none(5),
+        _ => {
+            refused(answer.number());
+            u32::MAX
+        }
     }
-}
-
-fn none(refusal: u64) -> u32 {
-    refused(refusal);
-    u32::MAX
 }
 
 // The lengths of four buffers, two bytes each; with no bytes, more than any has.
@@ -51,7 +48,9 @@ fn lengths(line: &[u8]) -> u64 {
 }
 
 // Where the last entries begin, of so many.
-fn start_of(count: u32, last: usize) -> usize {
+fn start_of(count: u32, last: usize) -> usize
+    ensures { λ r. ⌜ r ≡ count - last ⌝ }
+{
     if (count as usize) < last {
         return 0;
     }
@@ -123,18 +122,11 @@ pub fn look_at(line: &[u8], labels: &[u16], values: &[u32], words: &[u64], scrat
     show_values(scratch, from, count);
 }
 
-fn checked(answer: Checked) -> u64 {
-    match answer {
-        Checked::Accepted => 0,
-        Checked::NotAnImage => 6,
-    }
-}
-
 // The cases that read the image that is lent.
 pub fn look(letter: u8, labels: &[u16], values: &[u32], words: &[u64]) {
     match letter {
         b'i' => show(labels, values, words, 0, u64::MAX),
-        b'A' => done(ACCEPTED, checked(image::accept(labels, values, words))),
+        b'A' => done(ACCEPTED, image::accept(labels, values, words).number()),
         _ => (),
     }
 }

@@ -2,7 +2,6 @@
 use crate::printing::number;
 use crate::text::BYTES;
 use crate::text::hex;
-ghost use Rattle.io.specs.Counts.{Counts};
 
 // More than any key has.
 pub const LONGEST: usize = 4200;
@@ -47,34 +46,9 @@ pub fn lend_built(nodes: u32, before: Lent) -> Lent {
     if nodes <= MOST {
         lent.labels = nodes as usize;
         lent.values = nodes as usize;
-        lent.words = (nodes as usize + 33) / 32;
+        lent.words = image::words_for(nodes);
     }
     lent
-}
-
-// How many of n entries there are.
-pub fn of_bytes(all: &[u8], n: usize) -> usize
-    ensures { λ r. ⌜ Counts r (now (all .entry)) ⌝ }
-{
-    if all.len() < n { all.len() } else { n }
-}
-
-pub fn of_labels(all: &[u16], n: usize) -> usize
-    ensures { λ r. ⌜ Counts r (now (all .entry)) ⌝ }
-{
-    if all.len() < n { all.len() } else { n }
-}
-
-pub fn of_values(all: &[u32], n: usize) -> usize
-    ensures { λ r. ⌜ Counts r (now (all .entry)) ⌝ }
-{
-    if all.len() < n { all.len() } else { n }
-}
-
-pub fn of_words(all: &[u64], n: usize) -> usize
-    ensures { λ r. ⌜ Counts r (now (all .entry)) ⌝ }
-{
-    if all.len() < n { all.len() } else { n }
 }
 
 // Stores what the line's bytes spell, from an index on, as far as there is room.

@@ -1,6 +1,6 @@
 // The cases of pools. A list asks for no more words than there are.
+use crate::counts::of_values;
 use crate::memory::LONGEST;
-use crate::memory::of_values;
 use crate::memory::show_values;
 use crate::memory::store_values;
 use crate::printing::DONE;
@@ -11,41 +11,20 @@ use crate::text::BYTES;
 use crate::text::digits;
 use crate::text::hex;
 use crate::text::key;
-use pool::answers::Cleared;
 use pool::answers::Counted;
-use pool::answers::Pushed;
-
-// The number of a refusal, 0 where there is none.
-fn cleared(answer: Cleared) -> u64 {
-    match answer {
-        Cleared::Done => 0,
-        Cleared::PoolTooSmall => 1,
-    }
-}
-
-fn pushed(answer: Pushed) -> u64 {
-    match answer {
-        Pushed::Done => 0,
-        Pushed::PoolTooSmall => 1,
-        Pushed::NotAPool => 2,
-        Pushed::EmptyKey => 3,
-        Pushed::NoRoom => 4,
-    }
-}
 
 fn counted(answer: Counted) {
     match answer {
         Counted::Records(n) => number(n as u64),
-        Counted::PoolTooSmall => refused(1),
-        Counted::NotAPool => refused(2),
+        _ => refused(answer.number()),
     }
 }
 
 // The calls on the pool that is lent.
 fn call(letter: u8, n: u32, key: &[u8], pool: &mut [u32]) {
     match letter {
-        b'n' => done(DONE, cleared(pool::reset(pool))),
-        b'p' | b'Q' => done(DONE, pushed(pool::push(pool, key, n))),
+        b'n' => done(DONE, pool::reset(pool).number()),
+        b'p' | b'Q' => done(DONE, pool::push(pool, key, n).number()),
         b'u' => counted(pool::use_count(pool)),
         _ => (),
     }

@@ -66,9 +66,9 @@ pub fn number(n: u64) {
     io::print_decimal(STDOUT_FILENO, n);
 }
 
-pub fn refused(n: u64) {
+pub fn refused(refusal: u32) {
     word(REFUSED);
-    number(n);
+    number(refusal as u64);
 }
 
 // What begins an answer: the letter of the case. A title is written as it stands.
@@ -81,7 +81,7 @@ pub fn head(line: &[u8]) {
 }
 
 // The word, or a refusal by its number.
-pub fn done(begin: usize, refusal: u64) {
+pub fn done(begin: usize, refusal: u32) {
     if refusal == 0 {
         word(begin);
         return;

@@ -1,7 +1,8 @@
 // The lines of a list and what stands in them: a letter, a space, eight hexadecimal digits, a space, and two digits for each byte.
-use crate::memory::of_bytes;
+use crate::counts::of_bytes;
+ghost use mathlib.Core.Path.{_≡_};
 ghost use Prim.Native.Nat.{_-_, _≤_};
-ghost use lib.ListN.{length};
+ghost use lib.ListN.{length, getD};
 ghost use Rattle.io.specs.Counts.{Counts};
 
 const LF: u8 = 10;
@@ -28,7 +29,9 @@ pub fn line_at(text: &[u8], from: usize) -> &[u8]
 }
 
 // The first byte of a line, 0 where it is empty.
-pub fn letter(line: &[u8]) -> u8 {
+pub fn letter(line: &[u8]) -> u8
+    ensures { λ r. ⌜ r ≡ getD (now (line .entry)) 0 0 ⌝ }
+{
     if 0 < line.len() {
         return line[0];
     }
@@ -67,7 +70,9 @@ pub fn number(line: &[u8]) -> u32 {
 }
 
 // How many digits the line's bytes have.
-pub fn digits(line: &[u8]) -> usize {
+pub fn digits(line: &[u8]) -> usize
+    ensures { λ r. ⌜ r ≡ length (now (line .entry)) - 11 ⌝ }
+{
     if line.len() < BYTES {
         return 0;
     }

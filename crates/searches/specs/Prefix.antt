@@ -7,7 +7,7 @@ use mathlib.Core.List.{List, [], _∷_}
 use mathlib.Core.Option.{Option, none, some}
 use Rattle.keymap.specs.Key.{Key}
 use Rattle.keymap.specs.Queries.{longestPrefixIn}
-use Rattle.keymap.specs.Answers.{saysWritten, writtenTo}
+use Rattle.keymap.specs.Answers.{saysWritten, writtenKey}
 use Rattle.keymap.specs.Image.{Image}
 use Rattle.keymap.specs.Decode.{imageMap}
 use Rattle.image.specs.AcceptTest.{imageTest}
@@ -17,12 +17,8 @@ abbrev pub saysLongest : Option Key → List ℕ → List ℕ
 saysLongest none out = 0 ∷ []
 saysLongest (some k) out = saysWritten k out
 
-abbrev pub writtenLongest : Option Key → List ℕ → List ℕ
-writtenLongest none out = out
-writtenLongest (some k) out = writtenTo k out
-
 unfoldable pub longestSays : Image → Key → List ℕ → List ℕ
 longestSays i q out = onImage i (saysLongest (longestPrefixIn q (imageMap i)) out)
 
 unfoldable pub longestOut : Image → Key → List ℕ → List ℕ
-longestOut i q out = cond (imageTest i) (writtenLongest (longestPrefixIn q (imageMap i)) out) out
+longestOut i q out = cond (imageTest i) (writtenKey (longestPrefixIn q (imageMap i)) out) out

@@ -44,12 +44,12 @@ use Rattle.listings.specs.declared.answers.Cursor.{Cursor}
 use Rattle.image.specs.AcceptAnswer.{onImage}
 use Rattle.keymap.specs.Answers.{saysValue}
 use Rattle.searches.specs.Exact.{exactSays, setAt, setValues}
-use Rattle.keymap.specs.Answers.{saysWritten, writtenTo}
-use Rattle.searches.specs.Prefix.{saysLongest, writtenLongest, longestSays, longestOut}
+use Rattle.keymap.specs.Answers.{saysWritten, writtenTo, writtenKey}
+use Rattle.searches.specs.Prefix.{saysLongest, longestSays, longestOut}
 use Rattle.searches.specs.CommonPrefixes.{saysCommon, partOf, commonSays, commonPart}
 use Rattle.keymap.specs.Answers.{given}
 use Rattle.listings.specs.Cursors.{belongs, onCursor}
-use Rattle.listings.specs.GivenKey.{saysKey, writtenKey, keyOf, keySays, keyOut}
+use Rattle.listings.specs.GivenKey.{saysKey, keyOf, keySays, keyOut}
 use Rattle.places.specs.Incremental.{onPlace, saysOk, saysErr, pathSays, walkable, commonBelow, distanceSays, queryIn, gotoIn, querySays, queryMoves, followIn, followSays, followMoves, gotoSays, gotoMoves}
 use Rattle.places.specs.Places.{resumeSays, valueSays, prefixLenSays, prefixSays, prefixOut}
 use Rattle.searches.proofs.Laws.Exact.{exactSays-refused, isPrefixSays-refused}
@@ -168,7 +168,7 @@ value-accepted : (o : Option ℕ) → accepted (saysValue o) ≡ true
 value-accepted none = refl
 value-accepted (some v) = refl
 
-longest-kept : (o : Option Key) (out : List ℕ) → accepted (saysLongest o out) ≡ false → writtenLongest o out ≡ out
+longest-kept : (o : Option Key) (out : List ℕ) → accepted (saysLongest o out) ≡ false → writtenKey o out ≡ out
 longest-kept none out h = refl
 longest-kept (some k) out h = written-kept k out h
 
@@ -213,7 +213,7 @@ refusal-keeps = record {
   push = λ p k v h. rw h;
   build = λ p ls vs ws qs h. (rw h, rw h, rw h, rw h);
   set-value = λ i q v h. let o = lookup q (imageMap i) in let after = setAt (i .values) (nodeOf (imageMap i) q) o v in on-image i (saysValue o) after (i .values) (never (saysValue o) after (i .values) (value-accepted o)) h;
-  longest-prefix = λ i q out h. let o = longestPrefixIn q (imageMap i) in on-image i (saysLongest o out) (writtenLongest o out) out (longest-kept o out) h;
+  longest-prefix = λ i q out h. let o = longestPrefixIn q (imageMap i) in on-image i (saysLongest o out) (writtenKey o out) out (longest-kept o out) h;
   cursor-key = λ i c out h. let o = keyOf (imageMap i) c in on-cursor i c (saysKey o out) (writtenKey o out) out (key-kept o out) h;
   prefix = λ i k out h. let p = pathOf (imageMap i) k in on-place i k (saysWritten p out) (writtenTo p out) out (written-kept p out) h;
   query = λ i k a h. let m = imageMap i in let q = pathOf m k ++ (a ∷ []) in let to = cond (isPath m q) (nodeOf m q) k in on-place i k (queryIn m q) to k (never (queryIn m q) to k (query-accepted m q)) h;

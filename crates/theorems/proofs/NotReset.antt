@@ -3,7 +3,7 @@ use Prim.Native.Nat.{ℕ}
 use mathlib.Core.Path.{_≡_, sym, ap, subst, _∙_}
 use mathlib.Core.List.{List, [], _∷_}
 use native.Mathlib.Omega.{arith}
-use Rattle.keymap.specs.Map.{Map, Proper, Catalogue}
+use Rattle.keymap.specs.Map.{Map, Catalogue}
 use Rattle.keymap.specs.Image.{Image, image}
 use Rattle.records.specs.Words.{Pool, Bounded, capacity}
 use Rattle.records.specs.Sound.{Sound}
@@ -13,7 +13,7 @@ use Rattle.records.proofs.Laws.Meaning.{map-holds, map-catalogue, count-prefixe
 use Rattle.pool.specs.Reset.{resetPool}
 use Rattle.pool.specs.History.{AllLent, runPool, mapRun, pushesOf}
 use Rattle.pool.proofs.Laws.Reset.{reset-sound, length-reset}
-use Rattle.pool.proofs.Laws.History.{run-sound, run-map, run-within, refill-says, refill-map}
+use Rattle.pool.proofs.Laws.History.{run-sound, run-map, run-within, pushes-lent, refill-says, refill-map}
 use Rattle.image.specs.History.{Call, poolCalls, historySays, mapHistorySays}
 use Rattle.image.specs.Build.{buildSays}
 use Rattle.image.proofs.Laws.History.{history-says}
@@ -22,10 +22,6 @@ use Rattle.theorems.specs.Demand2.{Demand2}
 use Rattle.theorems.specs.NotReset.{refilled, EverySound}
 use Rattle.theorems.proofs.Built.{run-capacity, built-image}
 use Rattle.theorems.proofs.Demand2.{every-map}
-
-pushes-lent : (m : Map) → Proper m → AllLent (pushesOf m)
-pushes-lent [] p = tt
-pushes-lent (e ∷ m) p = ((p .1, p .2), pushes-lent m (p .3))
 
 module _ (p : Pool) (s : Sound p) (bounded : Bounded p) where
   held : Catalogue (poolMap p)

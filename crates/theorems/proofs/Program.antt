@@ -6,7 +6,7 @@ use mathlib.Core.List.{List, [], _∷_}
 use mathlib.Core.Option.{some}
 use native.Mathlib.Omega.{arith}
 use lib.ListN.{length}
-use Rattle.keymap.specs.Prefixes.{prefixes, levels, deepest}
+use Rattle.keymap.proofs.Laws.Prefixes.{prefixes-empty}
 use Rattle.lines.specs.Text.{entryLines}
 use Rattle.catalogue.specs.Limits.{fileLimit, programCapacity}
 use Rattle.catalogue.specs.TextAnswers.{textFrom, textSays, textMap}
@@ -27,13 +27,9 @@ refusal-says text r =
     ∙ ap (textFrom programCapacity 1 []) (r .cut)
     ∙ text-refuses (r .before) (r .line) (r .after) programCapacity 1 [] (text-accepts (r .before) programCapacity 1 [] tt (r .entries) (r .few)) (r .number) (r .cause)
 
-no-records : length (prefixes []) ≤ programCapacity
-unfolding prefixes levels deepest
-no-records = omega arith
-
 first-refusal : (text : List ℕ) → length text ≤ fileLimit → Stopped programCapacity 1 [] (entryLines text) → FirstRefusal programCapacity text
 first-refusal text h s =
-    let (entries, few) = text-accepted (s .before) programCapacity 1 [] no-records (s .pushed) in
+    let (entries, few) = text-accepted (s .before) programCapacity 1 [] (omega (arith, ap length prefixes-empty)) (s .pushed) in
     record {
       short = h;
       before = s .before;

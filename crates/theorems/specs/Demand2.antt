@@ -37,12 +37,12 @@ use Rattle.listings.specs.declared.answers.Cursor.the-variants.{Open, Finished}
 use Rattle.keymap.specs.Answers.{saysValue, saysFlag}
 use Rattle.listings.specs.Answers.{saidCursor}
 use Rattle.searches.specs.Exact.{exactSays, setValues, isPrefixSays}
-use Rattle.keymap.specs.Answers.{saysWritten, writtenTo}
-use Rattle.searches.specs.Prefix.{saysLongest, writtenLongest, longestSays, longestOut}
+use Rattle.keymap.specs.Answers.{saysWritten, writtenTo, writtenKey}
+use Rattle.searches.specs.Prefix.{saysLongest, longestSays, longestOut}
 use Rattle.searches.specs.CommonPrefixes.{saysCommon, commonSays, partOf, commonPart}
 use Rattle.keymap.specs.Answers.{given}
 use Rattle.listings.specs.Cursors.{setOf, belongs, onCursor, startSays, saysEnd, saysStep, stepIn, stepSays}
-use Rattle.listings.specs.GivenKey.{keyOf, saysKey, writtenKey, keySays, keyOut}
+use Rattle.listings.specs.GivenKey.{keyOf, saysKey, keySays, keyOut}
 use Rattle.places.specs.Incremental.{queryIn, querySays, queryMoves, walkable, followIn, followSays, followMoves, commonBelow, gotoIn, gotoSays, gotoMoves}
 use Rattle.places.specs.Places.{resumeSays, valueSays, prefixLenSays, prefixSays, prefixOut}
 use Rattle.theorems.specs.Built.{poolAfter, mapAfter, builtImage}
@@ -94,7 +94,7 @@ pub record Searches (m : Map) (i : Image) : Type 0 where
   pub is-prefix : (q : Key) → isPrefixSays i q ≡ saysFlag (isPrefixIn q m)
   pub some-longer : (q : Key) → (isPrefixIn q m ≡ true) ↔ ((e : Entry) × In e m × PrefixOf q (e .0) × (length q < length (e .0)))
   -- `longest_prefix`: "written to a lent buffer and its length answered; no match writes nothing"
-  pub longest-prefix : (q : Key) (out : List ℕ) → (longestSays i q out ≡ saysLongest (longestPrefixIn q m) out) × (longestOut i q out ≡ writtenLongest (longestPrefixIn q m) out)
+  pub longest-prefix : (q : Key) (out : List ℕ) → (longestSays i q out ≡ saysLongest (longestPrefixIn q m) out) × (longestOut i q out ≡ writtenKey (longestPrefixIn q m) out)
   -- "the longest common prefix of all keys beginning with the query; no match if there are none or it is empty"
   pub longest : (q p : Key) → (longestPrefixIn q m ≡ some p) ↔ (SomeBegins q m × LongestCommon (setOf m Predictive q) p × (¬ (p ≡ [])))
   pub no-longest : (q : Key) → (longestPrefixIn q m ≡ none) ↔ ((¬ SomeBegins q m) ⊎ LongestCommon (setOf m Predictive q) [])

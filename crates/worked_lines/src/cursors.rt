@@ -34,7 +34,7 @@ fn tell(held: Held) {
 }
 
 // The cursor stays as it was.
-fn refuse(held: Held, refusal: u64) -> Held {
+fn refuse(held: Held, refusal: u32) -> Held {
     let mut after = held;
     refused(refusal);
     after.refused = true;

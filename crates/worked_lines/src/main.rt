@@ -7,14 +7,14 @@ mod queries;
 mod spelling;
 
 use held::Held;
+use replay::counts::of_labels;
+use replay::counts::of_values;
+use replay::counts::of_words;
 use replay::images;
 use replay::lists::read_lists;
 use replay::memory::LONGEST;
 use replay::memory::Lent;
 use replay::memory::nothing;
-use replay::memory::of_labels;
-use replay::memory::of_values;
-use replay::memory::of_words;
 use replay::printing::byte;
 use replay::remember;
 use replay::text;

@@ -1,8 +1,8 @@
 // The cases that write a key or prefix into a buffer.
 use crate::held::Held;
 use crate::held::cursor;
+use replay::counts::of_bytes;
 use replay::memory::LONGEST;
-use replay::memory::of_bytes;
 use replay::printing::NONE;
 use replay::printing::bytes;
 use replay::printing::number;

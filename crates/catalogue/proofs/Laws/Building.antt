@@ -76,8 +76,8 @@ front xs ys after n e fits is = (
 record BuiltImage (p : Pool) (ls vs ws qs : List ℕ) (n : ℕ) : Type 0 where
   labels-in : n ≤ length (buildLabels p ls vs ws qs)
   values-in : n ≤ length (buildValues p ls vs ws qs)
-  words-in : (2 * n + 66) / 64 ≤ length (buildWords p ls vs ws qs)
-  shows : asImage (take n (buildLabels p ls vs ws qs)) (take n (buildValues p ls vs ws qs)) (take ((2 * n + 66) / 64) (buildWords p ls vs ws qs)) ≡ image (poolMap p)
+  words-in : wordsFor (bitsFor n) ≤ length (buildWords p ls vs ws qs)
+  shows : asImage (take n (buildLabels p ls vs ws qs)) (take n (buildValues p ls vs ws qs)) (take (wordsFor (bitsFor n)) (buildWords p ls vs ws qs)) ≡ image (poolMap p)
   is-map : MapImage (image (poolMap p))
   map-back : imageMap (image (poolMap p)) ≡ poolMap p
 
@@ -92,10 +92,9 @@ built-image p ls vs ws qs n held h =
     let some-labels : n ≡ length (imageLabels m) = sym (length-imageLabels m ∙ many) in
     let some-values : n ≡ length (imageValues m) = sym (length-imageValues m ∙ many) in
     let words-are : length (pack (imageBits m)) ≡ wordsFor (bitsFor n) = length-pack (imageBits m) ∙ ap wordsFor (length-imageBits m c) ∙ ap (λ (k : ℕ). wordsFor (bitsFor k)) many in
-    let some-words : (2 * n + 66) / 64 ≡ length (pack (imageBits m)) = omega (arith, words-are) in
     let ls-front = front (imageLabels m) ls _ n some-labels (omega (arith, f .count, f .fits .0)) (shown .labels-show) in
     let vs-front = front (imageValues m) vs _ n some-values (omega (arith, f .count, f .fits .1)) (shown .values-show) in
-    let ws-front = front (pack (imageBits m)) ws _ ((2 * n + 66) / 64) some-words (omega (arith, f .count, f .fits .2, words-are)) (shown .words-show) in
+    let ws-front = front (pack (imageBits m)) ws _ (wordsFor (bitsFor n)) (sym words-are) (omega (arith, f .count, f .fits .2, words-are)) (shown .words-show) in
     let l = ls-front .0 in
     let v = vs-front .0 in
     let w = ws-front .0 in
@@ -108,24 +107,23 @@ built-image p ls vs ws qs n held h =
       map-back = imageMap-image m c;
     }
 
--- the same of the buffers as a build left them
-pub record LentImage (p : Pool) (labels values words : List ℕ) (n : ℕ) : Type 0 where
+-- the same of the buffers as a build left them, where w words are lent
+pub record LentImage (p : Pool) (labels values words : List ℕ) (n w : ℕ) : Type 0 where
   pub labels-in : n ≤ length labels
   pub values-in : n ≤ length values
-  pub words-in : (2 * n + 66) / 64 ≤ length words
-  pub is-map : MapImage (asImage (take n labels) (take n values) (take ((2 * n + 66) / 64) words))
-  pub map-is : imageMap (asImage (take n labels) (take n values) (take ((2 * n + 66) / 64) words)) ≡ poolMap p
+  pub words-in : w ≤ length words
+  pub is-map : MapImage (asImage (take n labels) (take n values) (take w words))
+  pub map-is : imageMap (asImage (take n labels) (take n values) (take w words)) ≡ poolMap p
 
-pub lent-image : (p : Pool) (ls vs ws qs : List ℕ) (n : ℕ) (labels values words : List ℕ) → (Sound p → Catalogue (poolMap p)) → 0 ∷ n ∷ [] ≡ buildSays p ls vs ws qs
-    → labels ≡ buildLabels p ls vs ws qs → values ≡ buildValues p ls vs ws qs → words ≡ buildWords p ls vs ws qs → LentImage p labels values words n
-lent-image p ls vs ws qs n labels values words held h l v w =
+pub lent-image : (p : Pool) (ls vs ws qs : List ℕ) (n w : ℕ) (labels values words : List ℕ) → w ≡ wordsFor (bitsFor n) → (Sound p → Catalogue (poolMap p)) → 0 ∷ n ∷ [] ≡ buildSays p ls vs ws qs
+    → labels ≡ buildLabels p ls vs ws qs → values ≡ buildValues p ls vs ws qs → words ≡ buildWords p ls vs ws qs → LentImage p labels values words n w
+lent-image p ls vs ws qs n w labels values words sized held h l v d =
     let b = built-image p ls vs ws qs n held h in
-    let shows : asImage (take n labels) (take n values) (take ((2 * n + 66) / 64) words) ≡ image (poolMap p) =
-    (λ i. asImage (take n (l i)) (take n (v i)) (take ((2 * n + 66) / 64) (w i))) ∙ b .shows in
+    let shows : asImage (take n labels) (take n values) (take w words) ≡ image (poolMap p) = (λ i. asImage (take n (l i)) (take n (v i)) (take (sized i) (d i))) ∙ b .shows in
     record {
       labels-in = subst (λ (xs : List ℕ). n ≤ length xs) (sym l) (b .labels-in);
       values-in = subst (λ (xs : List ℕ). n ≤ length xs) (sym v) (b .values-in);
-      words-in = subst (λ (xs : List ℕ). (2 * n + 66) / 64 ≤ length xs) (sym w) (b .words-in);
+      words-in = omega (arith, sized, ap length d, b .words-in);
       is-map = subst MapImage (sym shows) (b .is-map);
       map-is = ap imageMap shows ∙ b .map-back;
     }

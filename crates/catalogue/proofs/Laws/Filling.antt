@@ -1,5 +1,6 @@
 -- Laws of lines pushed in turn. An accepted line is an insert of its entry, so that lines accepted whole leave the map of their entries.
 --
+--     pushed-said                      what a push says is its number
 --     entry-said, entry-none           the entry of a line, by what `tab_line` answered
 --     line-refused                     a refused line leaves the pool as it was
 --     fill-end, fill-goes, fill-stops  the equations of `fillFrom` and `leftFrom`, by what one line says
@@ -18,13 +19,15 @@ use lib.Dec.{eqb}
 use borrow.Author.Tests.{eq-eqb, ne-eqb, eqb-false}
 use Rattle.keymap.specs.Limits.{byteLimit}
 use Rattle.keymap.specs.Key.{Bytes}
+use Rattle.keymap.specs.Answers.{answerNumber}
 use Rattle.keymap.specs.Map.{Entry, insertAll}
 use Rattle.keymap.specs.Refusals.{Refusal, refuses}
 use Rattle.keymap.proofs.Laws.Begins.{bytes-prefix, prefix-leading}
 use Rattle.records.specs.Words.{Pool, recordWords}
 use Rattle.records.specs.Sound.{Sound}
 use Rattle.records.specs.Meaning.{poolMap}
-use Rattle.pool.specs.Answers.{accepted}
+use Rattle.pool.specs.declared.answers.Pushed.{Pushed}
+use Rattle.pool.specs.Answers.{saidPushed, accepted}
 use Rattle.pool.specs.Reset.{resetPool}
 use Rattle.pool.specs.Push.{pushSays, pushPool}
 use Rattle.pool.proofs.Laws.Reset.{reset-sound}
@@ -39,6 +42,14 @@ use Rattle.catalogue.specs.TextAnswers.{entriesIn}
 use Rattle.catalogue.specs.Filling.{saidFilled, lineSays, linePool, fillFrom, leftFrom, fillPool, HeldIf}
 
 -- ---- one line
+
+-- a push answers one number
+pub pushed-said : (r : Pushed) → answerNumber (saidPushed r) ∷ [] ≡ saidPushed r
+pushed-said Pushed.Done = refl
+pushed-said Pushed.PoolTooSmall = refl
+pushed-said Pushed.NotAPool = refl
+pushed-said Pushed.EmptyKey = refl
+pushed-said Pushed.NoRoom = refl
 
 pub entry-said : (line : List ℕ) (n v : ℕ) → tabLineSays line ≡ 0 ∷ n ∷ v ∷ [] → tabEntry line ≡ some (tabLineKey line, v)
 unfolding tabLineSays tabLineKey

@@ -19,7 +19,8 @@ use lib.Dec.{leb, ltb}
 use borrow.Author.Tests.{ne-eqb, leb-true, leb-false, lt-leb, ltb-true, ltb-false, lt-ltb, le-ltb}
 use Rattle.keymap.specs.Key.{Key, Bytes}
 use Rattle.keymap.specs.Map.{Entry, Map, Rising, insert, insertAll}
-use Rattle.keymap.specs.Prefixes.{deepest, levels, prefixes}
+use Rattle.keymap.specs.Prefixes.{prefixes}
+use Rattle.keymap.proofs.Laws.Prefixes.{prefixes-empty}
 use Rattle.keymap.specs.Refusals.{Refusal, refusalNumber, refuses}
 use Rattle.keymap.proofs.Laws.Map.{insert-rising}
 use Rattle.records.specs.Words.{Pool, recordWords, capacity}
@@ -217,15 +218,11 @@ module _ (most : ℕ) (text : List ℕ) where
   unfolding textSays
   text-short h = rw (le-ltb _ _ h)
 
-  none-yet : length (prefixes []) ≤ most
-  unfolding prefixes levels deepest
-  none-yet = omega arith
-
   pub text-told : Told most text (textSays most text)
   text-told = go (ltb fileLimit (length text)) refl
     where
       among : length text ≤ fileLimit → (textFrom most 1 [] (entryLines text) ≡ 0 ∷ []) ⊎ Stopped most 1 [] (entryLines text) → Told most text (textSays most text)
-      among h (inl said) = let (a, few) = text-accepted (entryLines text) most 1 [] none-yet said in whole (record { short = h; entries = a; few = few }) (text-short h ∙ said)
+      among h (inl said) = let (a, few) = text-accepted (entryLines text) most 1 [] (omega (arith, ap length prefixes-empty)) said in whole (record { short = h; entries = a; few = few }) (text-short h ∙ said)
       among h (inr s) = refused h s (text-short h ∙ s .says)
 
       go : (t : Bool) → ltb fileLimit (length text) ≡ t → Told most text (textSays most text)

@@ -27,9 +27,29 @@ slice-aggregate-put-text c = search needs
 put-text-requires : tie.Need-put-text-requires
 put-text-requires c κs = search needs
 
+-- ---- the states that the needs look back to: a wrong count of steps is refused here, by its type
+abbrev to-start : tie.After-put-text → tie.Start
+to-start c = c .before .before .before .before .before
+
+abbrev to-else1 : tie.After-fill → tie.Else1
+to-else1 c = c .before .before .before .before .before
+
+abbrev to-else1-from-put-text2 : tie.After-put-text2 → tie.Else1
+to-else1-from-put-text2 c = c .before .before .before .before .before
+
+abbrev to-else2 : tie.After-enum-told → tie.Else2
+to-else2 c = c .before .before .before .before .before
+
+abbrev to-fill : tie.After-put-refused → tie.After-fill
+to-fill c = c .before .before .before .before .before
+
+abbrev to-enum-told : tie.After-list-pool-arg7 → tie.After-enum-told
+to-enum-told c = c .before .before .before .before .before .before .before
+
 returns : tie.Need-returns
 returns c =
-    let a = c .before .before .before .before .before .args in
+    let start = to-start c in
+    let a = start .args in
     unread-written (a .reading) (a .text .now) (a .pool .now) (a .labels .now) (a .values .now) (a .words .now) (a .scratch .now) (a .out .now) (unread _ (c .before .before .before .if1 .taken)) _ _ (c .put-text .ensures .0) (c .put-text .ensures .1)
 
 slice-aggregate-put-text-2 : tie.Need-slice-aggregate-put-text-2
@@ -40,8 +60,10 @@ put-text-requires-2 c κs = search needs
 
 returns-2 : tie.Need-returns-2
 returns-2 c =
-    let a = c .before .before .before .before .before .before .before .args in
-    long-written (a .reading) (a .text .now) (a .pool .now) (a .labels .now) (a .values .now) (a .words .now) (a .scratch .now) (a .out .now) (whole _ (c .before .before .before .before .before .if1 .left)) (c .before .before .before .if2 .taken) (omega arith) _ _ (c .put-text2 .ensures .0) (c .put-text2 .ensures .1)
+    let at-else1 = to-else1-from-put-text2 c in
+    let start = at-else1 .before .before in
+    let a = start .args in
+    long-written (a .reading) (a .text .now) (a .pool .now) (a .labels .now) (a .values .now) (a .words .now) (a .scratch .now) (a .out .now) (whole _ (at-else1 .if1 .left)) (c .before .before .before .if2 .taken) (omega arith) _ _ (c .put-text2 .ensures .0) (c .put-text2 .ensures .1)
 
 slice-aggregate-fill : tie.Need-slice-aggregate-fill
 slice-aggregate-fill c = sym (length-take-le _ _ (omega arith))
@@ -62,27 +84,42 @@ put-refused-requires c κs =
 enum-told : tie.Need-enum-told
 enum-told c = c .match .keys2
 
+-- the lengths of the rooms stand in `c`, which is named since `omega` goes through the states in scope only so far
 list-pool-requires : tie.Need-list-pool-requires
 list-pool-requires c κs =
-    let a = c .before .before .before .before .before .before .before .before .before .before .before .before .before .before .before .before .args in
-    let held = subst (λ (r : Filled). HeldIf r (c .before .before .before .before .before .before .before .before .before .fill .last .1 .0) (take (a .reading .done) (a .text .now))) (c .before .before .before .before .before .before .before .enum-told .given .1) (c .before .before .before .before .before .before .before .before .before .fill .ensures .1 .1) in (
-      build-accepts _ (held .0) (omega arith) (a .labels .now) (a .values .now) (a .words .now) (a .scratch .now) (omega arith) (omega arith) (omega arith) (omega arith),
-      omega (arith, listing-fits (a .reading) (a .text .now) (a .pool .now) (a .labels .now) (a .values .now) (a .words .now) (a .scratch .now) (a .out .now) (whole _ (c .before .before .before .before .before .before .before .before .before .before .before .before .before .before .if1 .left)) (c .before .before .before .before .before .before .before .before .before .before .before .before .if2 .left) _ (held .1)),
+    let at-enum-told = to-enum-told c in
+    let at-fill = at-enum-told .before .before in
+    let at-else2 = at-fill .before .before .before in
+    let at-else1 = at-else2 .before .before in
+    let start = at-else1 .before .before in
+    let a = start .args in
+    let held = subst (λ (r : Filled). HeldIf r (at-fill .fill .last .1 .0) (take (a .reading .done) (a .text .now))) (at-enum-told .enum-told .given .1) (at-fill .fill .ensures .1 .1) in (
+      build-accepts _ (held .0) (omega (arith, c)) (a .labels .now) (a .values .now) (a .words .now) (a .scratch .now) (omega (arith, c)) (omega (arith, c)) (omega (arith, c)) (omega (arith, c)),
+      omega (arith, c, listing-fits (a .reading) (a .text .now) (a .pool .now) (a .labels .now) (a .values .now) (a .words .now) (a .scratch .now) (a .out .now) (whole _ (at-else1 .if1 .left)) (at-else2 .if2 .left) _ (held .1)),
     )
 
 returns-3 : tie.Need-returns-3
 returns-3 c =
-    let a = c .before .before .before .before .before .before .before .before .before .before .before .before .args in
-    let filled = c .before .before .before .before .before .fill .ensures in
-    refused-written (a .reading) (a .text .now) (a .pool .now) (a .labels .now) (a .values .now) (a .words .now) (a .scratch .now) (a .out .now) (whole _ (c .before .before .before .before .before .before .before .before .before .before .if1 .left)) (c .before .before .before .before .before .before .before .before .if2 .left) _ _ (ap saidFilled (sym (c .before .before .before .number .given .1)) ∙ filled .0) _ (filled .1 .0) _ _ (c .put-refused .ensures .0) (c .put-refused .ensures .1)
+    let at-fill = to-fill c in
+    let at-else2 = at-fill .before .before .before in
+    let at-else1 = at-else2 .before .before in
+    let start = at-else1 .before .before in
+    let a = start .args in
+    let filled = at-fill .fill .ensures in
+    refused-written (a .reading) (a .text .now) (a .pool .now) (a .labels .now) (a .values .now) (a .words .now) (a .scratch .now) (a .out .now) (whole _ (at-else1 .if1 .left)) (at-else2 .if2 .left) _ _ (ap saidFilled (sym (c .before .before .before .number .given .1)) ∙ filled .0) _ (filled .1 .0) _ _ (c .put-refused .ensures .0) (c .put-refused .ensures .1)
 
 returns-4 : tie.Need-returns-4
 returns-4 c =
-    let a = c .before .before .before .before .before .before .before .before .before .before .before .before .before .before .before .before .before .args in
-    let filled = c .before .before .before .before .before .before .before .before .before .before .fill .ensures in
-    let held = subst (λ (r : Filled). HeldIf r (c .before .before .before .before .before .before .before .before .before .before .fill .last .1 .0) (take (a .reading .done) (a .text .now))) (c .before .before .before .before .before .before .before .before .enum-told .given .1) (c .before .before .before .before .before .before .before .before .before .before .fill .ensures .1 .1) in
+    let at-enum-told = to-enum-told (c .before) in
+    let at-fill = at-enum-told .before .before in
+    let at-else2 = at-fill .before .before .before in
+    let at-else1 = at-else2 .before .before in
+    let start = at-else1 .before .before in
+    let a = start .args in
+    let filled = at-fill .fill .ensures in
+    let held = subst (λ (r : Filled). HeldIf r (at-fill .fill .last .1 .0) (take (a .reading .done) (a .text .now))) (at-enum-told .enum-told .given .1) (at-fill .fill .ensures .1 .1) in
     let listed = c .list-pool .ensures in
-    listed-written (a .reading) (a .text .now) (a .pool .now) (a .labels .now) (a .values .now) (a .words .now) (a .scratch .now) (a .out .now) (whole _ (c .before .before .before .before .before .before .before .before .before .before .before .before .before .before .before .if1 .left)) (c .before .before .before .before .before .before .before .before .before .before .before .before .before .if2 .left) _ (ap saidFilled (sym (c .before .before .before .before .before .before .before .before .enum-told .given .1)) ∙ filled .0) (filled .1 .0) (held .1) _ _ _ _ _ _ (listed .0) (listed .1 .0) (listed .1 .1)
+    listed-written (a .reading) (a .text .now) (a .pool .now) (a .labels .now) (a .values .now) (a .words .now) (a .scratch .now) (a .out .now) (whole _ (at-else1 .if1 .left)) (at-else2 .if2 .left) _ (ap saidFilled (sym (at-enum-told .enum-told .given .1)) ∙ filled .0) (filled .1 .0) (held .1) _ _ _ _ _ _ (listed .0) (listed .1 .0) (listed .1 .1)
 
 pub answer-spec : {M : Type 1} → statement M
 answer-spec =

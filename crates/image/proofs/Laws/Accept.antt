@@ -7,8 +7,6 @@
 --     accepted-image      the image is that of the map that it stands for
 --     accepted-catalogue  which is a catalogue
 --     accepted-forest     the image is that of the trie that is decoded from it
---     accepted-orderly    which is orderly
---     accepted-bytes      and has bytes for labels
 --     node-same           equal answers have equal numbers: of a parent, and `run-count` of a run of children
 -- Assumes nothing.
 use mathlib.Core.Path.{_≡_, refl, sym, ap, ap₂, _∙_, subst}
@@ -25,13 +23,12 @@ use Rattle.keymap.specs.Label.{mark, labelIn}
 use Rattle.keymap.specs.Bits.{bit, sumBelow, table, pack, unpack}
 use Rattle.keymap.specs.Degrees.{unary, total, sequence, degreesFrom}
 use Rattle.keymap.specs.Image.{Image, bitsFor, image}
-use Rattle.keymap.specs.Forest.{Orderly, ByteLabels}
 use Rattle.keymap.specs.BreadthFirst.{forestImage}
 use Rattle.keymap.specs.Decode.{decode, imageMap}
-use Rattle.keymap.proofs.Laws.Sums.{sumBelow-zero, sumBelow-suc, sumBelow-lt, sumBelow-mono}
+use Rattle.keymap.proofs.Laws.Sums.{sumBelow-zero, sumBelow-suc, sumBelow-lt, sumBelow-mono, inList}
 use Rattle.keymap.proofs.Laws.Bits.{bit-small, bit-either, length-unpack, getD-unpack, unpack-small, pack-unpack}
 use Rattle.keymap.proofs.Laws.Degrees.{sequence-unary, unary-degreesFrom, length-sequence}
-use Rattle.keymap.proofs.Laws.Shape.{Shape, shape-image, shape-orderly, shape-bytes, shape-map, shape-few, shape-catalogue, map-shape}
+use Rattle.keymap.proofs.Laws.Shape.{Shape, shape-image, shape-map, shape-few, shape-catalogue, map-shape}
 use Rattle.louds.specs.declared.answers.Children.the-variants.{Run}
 use Rattle.louds.specs.declared.answers.Up.the-variants.{Node}
 use Rattle.louds.specs.Rank.{onesBefore, zerosBefore}
@@ -39,7 +36,7 @@ use Rattle.louds.proofs.Laws.Rank.{ones-zeros, zeros-ext}
 use Rattle.louds.proofs.Laws.Select.{kth-rank}
 use Rattle.louds.proofs.Laws.Nodes.{child-of-parent, parent-at}
 use Rattle.image.specs.Accept.{entries, nodeEntry, parentIn, kidsIn, ParentBelow, HasChild, Accepted, OfMap, LentSlices}
-use Rattle.image.proofs.Laws.Spelled.{inList, Spelled, zeros-sequence, spelled-words, spelled-unused, spelled-first, spelled-zeros, spelled-ones, spelled-within, spelled-children, spelled-parent, ChildOf, spelled-parent-of, child-parent}
+use Rattle.image.proofs.Laws.Spelled.{Spelled, zeros-sequence, spelled-words, spelled-unused, spelled-first, spelled-zeros, spelled-ones, spelled-within, spelled-children, spelled-parent, ChildOf, spelled-parent-of, child-parent}
 
 -- ---- equal answers have equal numbers
 
@@ -285,12 +282,6 @@ module _ (i : Image) (a : Accepted i) where
 module _ (i : Image) (l : LentSlices i) (a : Accepted i) where
   pub accepted-forest : forestImage (decode i) ≡ i
   accepted-forest = let s = accepted-shape i a l in shape-image i (s .top) (s .rest) (s .shape)
-
-  pub accepted-orderly : Orderly (decode i)
-  accepted-orderly = let s = accepted-shape i a l in shape-orderly i (s .top) (s .rest) (s .shape)
-
-  pub accepted-bytes : ByteLabels (decode i)
-  accepted-bytes = let s = accepted-shape i a l in shape-bytes i (s .top) (s .rest) (s .shape)
 
   pub accepted-image : image (imageMap i) ≡ i
   accepted-image = let s = accepted-shape i a l in shape-map i (s .top) (s .rest) (s .shape)

@@ -9,13 +9,10 @@ use Prim.Native.Nat.{ℕ, _≤_}
 use mathlib.Core.Path.{_≡_, refl, sym, _∙_, ap, subst}
 use mathlib.Core.Bool.{true}
 use mathlib.Core.List.{List, [], _∷_}
-use native.Mathlib.Omega.{arith}
 use lib.ListN.{length}
 use Rattle.keymap.specs.Map.{Map}
 use Rattle.keymap.specs.Prefixes.{prefixes}
 use Rattle.keymap.specs.Image.{image}
-use Rattle.keymap.specs.Decode.{imageMap}
-use Rattle.keymap.proofs.Laws.Image.{imageMap-image}
 use Rattle.records.specs.Words.{Pool, recordWords, capacity}
 use Rattle.records.specs.Sound.{Sound}
 use Rattle.records.specs.Meaning.{poolMap}
@@ -25,8 +22,7 @@ use Rattle.pool.specs.Reset.{resetPool}
 use Rattle.pool.specs.History.{AllLent, runPool, mapRun}
 use Rattle.pool.proofs.Laws.Reset.{reset-sound, length-reset}
 use Rattle.pool.proofs.Laws.Meaning.{reset-means-empty}
-use Rattle.pool.proofs.Laws.History.{call-says, call-map, call-sound, call-capacity, reset-run-sound, reset-run-map, reset-run-within}
-use Rattle.image.specs.Accept.{OfMap}
+use Rattle.pool.proofs.Laws.History.{call-says, call-map, call-sound, call-capacity, reset-run-sound, reset-run-map}
 use Rattle.image.specs.Build.{fitSays, buildSays}
 use Rattle.image.specs.History.{Call, poolCalls, historySays, mapHistorySays}
 use Rattle.image.proofs.Laws.Build.{says-sound}
@@ -62,10 +58,3 @@ module _ (p : Pool) (h : recordWords ≤ length p) (cs : List Call) (lent : AllL
   reset-run-build ls vs ws qs e =
       let q = runPool (resetPool p) (poolCalls cs) in
       subst (λ (m : Map). Shows (image m) q ls vs ws qs) (reset-run-map p h (poolCalls cs) lent) (build-means-image q (reset-run-sound p h (poolCalls cs) lent) ls vs ws qs e)
-
-  -- the image of the map of the accepted keys is accepted, and stands for that map
-  pub reset-run-image : OfMap (image (mapRun (capacity p) [] (poolCalls cs))) × (imageMap (image (mapRun (capacity p) [] (poolCalls cs))) ≡ mapRun (capacity p) [] (poolCalls cs))
-  reset-run-image =
-      let m = mapRun (capacity p) [] (poolCalls cs) in
-      let (c, few) = reset-run-within p h (poolCalls cs) lent in
-      (record { map = m; catalogue = c; few = omega arith; whole = refl }, imageMap-image m c)

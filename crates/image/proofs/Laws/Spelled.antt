@@ -18,7 +18,7 @@ use lib.Seq.{take-all}
 use Rattle.keymap.specs.Bits.{bit, sumBelow, pack, wordsFor}
 use Rattle.keymap.specs.Degrees.{total, sequence}
 use Rattle.keymap.specs.Image.{Image, bitsFor}
-use Rattle.keymap.proofs.Laws.Sums.{sumBelow-suc, sumBelow-mono}
+use Rattle.keymap.proofs.Laws.Sums.{sumBelow-suc, sumBelow-mono, inList}
 use Rattle.keymap.proofs.Laws.Bits.{bit-small, bit-pack, length-pack}
 use Rattle.keymap.proofs.Laws.Degrees.{length-sequence, sequence-small, total-take}
 use Rattle.louds.specs.declared.answers.Children.the-variants.{Run}
@@ -29,10 +29,6 @@ use Rattle.louds.proofs.Laws.Select.{rank-kth, kth-exists}
 use Rattle.louds.proofs.Laws.Nodes.{parent-of-child}
 use Rattle.louds.proofs.Laws.Degrees.{zeroAt-sequence, children-pack}
 use Rattle.image.specs.Accept.{entries, parentIn, kidsIn}
-
--- the elements of a list by their places
-abbrev pub inList : List ℕ → ℕ → ℕ
-inList xs i = getD xs i 0
 
 -- the last bit of a sequence is the zero that closes the last degree
 pub zeros-sequence : (ds : List ℕ) → zerosBefore (inList (sequence ds)) (length (sequence ds)) ≡ length ds + 1

@@ -1,7 +1,6 @@
 -- Walking on an accepted image, over the trie that is decoded from it: siblings are entries in a row, and the children of an entry are the entries of a later row.
 -- So a walk that stands on siblings reads the first one's label and value, goes on to the next, or down to the children, and stands on siblings again.
 --
---     walk-root     the first row: the children of the root
 --     Step          what an image tells of the first of some siblings, and where its children stand
 --     walk-step     each such entry is so told
 -- Assumes nothing.
@@ -17,15 +16,15 @@ use Rattle.keymap.specs.Image.{Image}
 use Rattle.keymap.specs.Forest.{Forest, node, size, width}
 use Rattle.keymap.specs.BreadthFirst.{forestImage}
 use Rattle.keymap.specs.Decode.{decode}
-use Rattle.keymap.proofs.Laws.Sums.{sumBelow-zero, sumBelow-ext}
+use Rattle.keymap.proofs.Laws.Sums.{sumBelow-ext, inList}
 use Rattle.keymap.proofs.Laws.BreadthFirst.{Item}
-use Rattle.keymap.proofs.Laws.Items.{itemDegree, itemDegree-top, Siblings, siblings-top, siblings-inside, siblings-here, siblings-kids, siblings-degree, children-beyond}
+use Rattle.keymap.proofs.Laws.Items.{itemDegree, Siblings, siblings-inside, siblings-here, siblings-kids, siblings-degree, children-beyond}
 use Rattle.keymap.proofs.Laws.Entries.{getD-labels, getD-values}
 use Rattle.keymap.proofs.Laws.Shape.{shape-degree, shape-size}
 use Rattle.louds.specs.declared.answers.Children.the-variants.{Run}
 use Rattle.louds.specs.declared.answers.Up.the-variants.{Node}
 use Rattle.image.specs.Accept.{entries, parentIn, kidsIn, Accepted, LentSlices}
-use Rattle.image.proofs.Laws.Spelled.{inList, spelled-children, spelled-parent}
+use Rattle.image.proofs.Laws.Spelled.{spelled-children, spelled-parent}
 use Rattle.image.proofs.Laws.Accept.{accepted-shape, accepted-forest, shape-spelled}
 
 module _ (i : Image) (l : LentSlices i) (a : Accepted i) where
@@ -55,15 +54,6 @@ module _ (i : Image) (l : LentSlices i) (a : Accepted i) where
       let s = accepted-shape i a l in
       ap (λ (x : ℕ). parentIn i (x + j + 2)) (before-same k)
       ∙ spelled-parent i (s .top ∷ s .rest) (shape-spelled i (s .top) (s .rest) (s .shape)) k j h (omega (arith, shape-degree i (s .top) (s .rest) (s .shape) k))
-
-  pub walk-root : (kidsIn i 1 ≡ Run 2 (width trie)) × Siblings trie 0 trie × ((j : ℕ) → j < width trie → parentIn i (j + 2) ≡ Node 1)
-  walk-root =
-      let none = sumBelow-zero (itemDegree trie) in
-      let all = itemDegree-top trie in (
-        run-at 0 (omega arith) ∙ ap₂ (λ (x y : ℕ). Run (x + 2) y) none all,
-        siblings-top trie,
-        λ j h. ap (parentIn i) (omega (arith, none)) ∙ parent-in 0 j (omega arith) (omega (arith, all)),
-      )
 
   -- node e + 2, the first of some siblings, and its children
   pub record Step (e b : ℕ) (w : Option ℕ) (kids : Forest) : Type 0 where

@@ -30,12 +30,27 @@ used-count-requires c κs = search needs
 buffers-fit-requires : tie.Need-buffers-fit-requires
 buffers-fit-requires c κs = search needs
 
+-- ---- the states that the needs look back to: a wrong count of steps is refused here, by its type
+abbrev to-start : tie.Else2 → tie.Start
+to-start c = c .before .before .before .before .before .before .before .before
+
+abbrev to-else1 : tie.Then3 → tie.Else1
+to-else1 c = c .before .before .before .before .before
+
+abbrev to-write-levels : tie.After-scratch → tie.After-write-levels
+to-write-levels c = c .before .before .before
+
+abbrev to-scratch : tie.After-values → tie.After-scratch
+to-scratch c = c .before .before .before .before .before .before .before .before
+
 returns-3 : tie.Need-returns-3
-returns-3 c = build-refused _ _ _ _ _ Built.OutTooSmall (says-short _ _ _ _ _ _ (c .before .before .used-count .ensures) (c .before .before .before .before .before .if1 .left) (sym (c .before .before .before .before .is-sound .ensures .0) ∙ not-false _ (c .before .before .before .if2 .left)) (sym (c .before .buffers-fit .ensures) ∙ not-true _ (c .if3 .taken))) refl
+returns-3 c =
+    let at-else1 = to-else1 c in
+    build-refused _ _ _ _ _ Built.OutTooSmall (says-short _ _ _ _ _ _ (c .before .before .used-count .ensures) (at-else1 .if1 .left) (sym (c .before .before .before .before .is-sound .ensures .0) ∙ not-false _ (c .before .before .before .if2 .left)) (sym (c .before .buffers-fit .ensures) ∙ not-true _ (c .if3 .taken))) refl
 
 -- behind the tests: the pool is sound, the count is its own, and every buffer fits
 granted : (c : tie.Else3) →
-    let a = c .before .before .before .before .before .before .before .before .before .before .before .args in
+    let a = to-start (c .before .before .before) .args in
     let n = c .before .before .used-count .result in
     Sound (a .pool .now) × (n ≡ usedCount (a .pool .now)) × (n ≤ length (a .labels .now)) × (n ≤ length (a .values .now)) × (wordsFor (bitsFor n) ≤ length (a .words .now)) × (n ≤ length (a .scratch .now))
 granted c =
@@ -46,7 +61,10 @@ write-levels-requires : tie.Need-write-levels-requires
 write-levels-requires c κs = let g = granted (c .before .before) in record { sound = g .0; count = g .1; words-fit = g .4; queue-fits = g .5 }
 
 write-entries-requires : tie.Need-write-entries-requires
-write-entries-requires c κs = let g = granted (c .before .before .before .before .before .before .before .before .before .before) in tell-levels _ (g .0) _ (g .1) _ _ (c .before .before .before .before .before .before .before .write-levels .ensures .1) (g .5) _ _ (g .2) (g .3)
+write-entries-requires c κs =
+    let at-write-levels = to-write-levels (c .before .before .before .before) in
+    let at-else3 = at-write-levels .before .before .before in
+    let g = granted at-else3 in tell-levels _ (g .0) _ (g .1) _ _ (at-write-levels .write-levels .ensures .1) (g .5) _ _ (g .2) (g .3)
 
 same-length : tie.Need-same-length
 same-length c = search needs
@@ -62,11 +80,12 @@ same-length-4 c = search needs
 
 returns-4 : tie.Need-returns-4
 returns-4 c =
-    let e = c .before .before .before .before .before .before .before .before .before .before .before .before .before .before .before in
+    let at-write-levels = to-write-levels (to-scratch (c .before)) in
+    let e = at-write-levels .before .before .before in
     let g = granted e in
     let says = says-done _ _ _ _ _ _ (g .1) (e .before .before .before .before .before .if1 .left) (sym (e .before .before .before .before .is-sound .ensures .0) ∙ not-false _ (e .before .before .before .if2 .left)) (sym (e .before .buffers-fit .ensures) ∙ not-false _ (e .if3 .left)) in
     let d = build-done _ _ _ _ _ (Built.Nodes (e .before .before .used-count .result)) says refl in
-    let l = c .before .before .before .before .before .before .before .before .before .before .before .before .write-levels .ensures in
+    let l = at-write-levels .write-levels .ensures in
     let w = c .before .before .before .before .write-entries .ensures in (
       d .0,
       (

@@ -3,7 +3,6 @@
 --     rows-node       the row of a node, then the queue with its children behind
 --     rebuild-rows    a forest's rows are rebuilt into the forest
 --     rows-rebuild    rows that fit are those of what is rebuilt from them
---     fits-rows       a forest's rows fit
 -- Assumes nothing.
 use mathlib.Core.Path.{_≡_, refl, ap, _∙_}
 use Prim.Native.Nat.{ℕ, zero, suc, _-_, _≤_}
@@ -78,15 +77,3 @@ pub rows-rebuild : (rs : List Row) → RowsFit rs → rows (rebuild rs) ≡ rs
 unfolding rebuild rows visit size
 rows-rebuild [] h = refl
 rows-rebuild (r ∷ rs) h = rows-claim r (rebuild rs) (h .0) ∙ ap (λ (q : List Row). r ∷ q) (rows-rebuild rs (h .1))
-
-fits-visit : (n : ℕ) (f : Forest) → size f ≡ n → RowsFit (visit n f)
-unfolding visit size
-fits-visit zero f h = tt
-fits-visit (suc n) empty h = tt
-fits-visit (suc n) (node a w kids next) h =
-    let e : size (join next kids) ≡ n = omega (arith, size-join next kids) in
-    (rw (rebuild-visit n (join next kids) e) (omega (arith, width-join next kids)), fits-visit n (join next kids) e)
-
-pub fits-rows : (f : Forest) → RowsFit (rows f)
-unfolding rows
-fits-rows f = fits-visit (size f) f refl

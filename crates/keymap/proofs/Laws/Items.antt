@@ -6,8 +6,7 @@
 --     itemDegree        how many children the node at an index has
 --     entryItem         the node that an entry tells of
 --     Siblings          the siblings of a forest are the entries from a number on
---     siblings-top      the children of the root are the first entries
---     siblings-kids     those of an entry stand behind those of the nodes before it
+--     siblings-kids     the children of an entry stand behind those of the nodes before it
 --     siblings-here     what the first of some siblings is
 --     siblings-next     the others
 --     children-beyond   children have higher numbers than their parent
@@ -89,10 +88,6 @@ queue-ahead (suc n) (node a w kids next) h (suc k) l =
     )
 
 module _ (f : Forest) where
-  pub itemDegree-top : itemDegree f 0 ≡ width f
-  unfolding itemDegree allItems
-  itemDegree-top = refl
-
   pub itemDegree-entry : (e : ℕ) → itemDegree f (suc e) ≡ width ((entryItem f e) .kids)
   unfolding itemDegree allItems entryItem
   itemDegree-entry e = refl
@@ -137,10 +132,6 @@ module _ (f : Forest) where
   siblings-under : (k : ℕ) → k ≤ size f → Siblings f (sumBelow (itemDegree f) k) ((getD (allItems f) k nobody) .kids)
   unfolding itemDegree
   siblings-under k h = record { within = children-within f k h; are = children-entries f k }
-
-  pub siblings-top : Siblings f 0 f
-  unfolding allItems
-  siblings-top = subst (λ (e : ℕ). Siblings f e f) (sumBelow-zero (itemDegree f)) (siblings-under 0 zero-le)
 
   pub siblings-entry : (e : ℕ) → e < size f → Siblings f (sumBelow (itemDegree f) (suc e)) ((entryItem f e) .kids)
   unfolding allItems entryItem

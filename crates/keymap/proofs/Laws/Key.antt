@@ -34,9 +34,6 @@ order (suc a) (suc b) = order-suc (order a b)
 pub compare-lt : (a b : ℕ) → a < b → compare a b ≡ Ordering·lt
 compare-lt a b h = elim (order a b) [ below l e f ↦ e | same l e ↦ absurd (omega arith) | above l e f ↦ absurd (omega arith) ]
 
-pub compare-gt : (a b : ℕ) → b < a → compare a b ≡ Ordering·gt
-compare-gt a b h = elim (order a b) [ below l e f ↦ absurd (omega arith) | same l e ↦ absurd (omega arith) | above l e f ↦ e ]
-
 pub compare-refl : (a : ℕ) → compare a a ≡ Ordering·eq
 compare-refl a = elim (order a a) [ below l e f ↦ absurd (omega arith) | same l e ↦ e | above l e f ↦ absurd (omega arith) ]
 
@@ -44,11 +41,6 @@ compare-refl a = elim (order a a) [ below l e f ↦ absurd (omega arith) | same 
 pub below-byte : (a b : ℕ) (x y : Key) → a < b → Below (a ∷ x) (b ∷ y)
 unfolding compareKeys
 below-byte a b x y l = rw (compare-lt a b l)
-
--- and a key stands before all that begin with it
-pub below-longer : (b : ℕ) (y : Key) → Below [] (b ∷ y)
-unfolding compareKeys
-below-longer b y = refl
 
 pub compareKeys-refl : (x : Key) → compareKeys x x ≡ Ordering·eq
 unfolding compareKeys

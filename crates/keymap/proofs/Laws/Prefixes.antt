@@ -3,6 +3,7 @@
 --
 --     level-iff            a level has the prefixes of its length
 --     prefixes-iff         all levels together have the nonempty ones
+--     prefixes-empty       the empty map has none
 --     prefixes-ordered     they come in breadth-first order, so none comes twice: `prefixes-distinct`
 --     prefixesOf-iff       the same of one key, whose prefixes are as many as its bytes: `prefixesOf-length`
 --     prefixes-insert      an insert adds those that are missing
@@ -148,6 +149,10 @@ prefixes-iff m p = (
       let (n, (e, i, f)) = h in
       levels-iff (deepest m) 1 m p .1 (nonempty-length p .0 n, omega (arith, prefix-length p (e .0) f, deepest-most m e i), (e, i, f)),
 )
+
+pub prefixes-empty : prefixes [] ≡ []
+unfolding prefixes levels deepest
+prefixes-empty = refl
 
 pub prefixes-ordered : (m : Map) → Rising m → Ordered Earlier (prefixes m)
 unfolding prefixes

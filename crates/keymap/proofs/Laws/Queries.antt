@@ -278,12 +278,6 @@ longestPrefixIn-none q m = (λ h. from (beginning q m) refl (unlessEmpty-none _ 
     to (e ∷ n) b (inl h) = let (i, f) = beginning-iff q m e .0 (rw b (here refl)) in absurd (h (e, i, f))
     to (e ∷ n) b (inr c) = longestCommon-one (e ∷ n) _ [] e (here refl) (commonOfAll-longest (e ∷ n) e (here refl)) c
 
--- the answer begins with the query
-pub longestPrefixIn-begins : (q : Key) (m : Map) (p : Key) → longestPrefixIn q m ≡ some p → PrefixOf q p
-longestPrefixIn-begins q m p h =
-    let ((e, i, f), c, n) = longestPrefixIn-some q m p .0 h in
-    longestCommon-begins (beginning q m) p q e (beginning-iff q m e .1 (i, f)) c (λ d j. beginning-iff q m d .0 j .1)
-
 -- no entry that passes a test stands below e, which does
 abbrev First : (Entry → Bool) → Map → Entry → Type 0
 First test m e = In e m × (test e ≡ true) × ((d : Entry) → In d m → test d ≡ true → ¬ Below (d .0) (e .0))

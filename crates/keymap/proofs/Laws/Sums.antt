@@ -9,6 +9,7 @@
 --     sumBelow-lt     the smaller sum has the fewer places
 --     sumBelow-ext    equal below the bound, equal sums
 --     sumBelow-none   zeros below the bound, no sum
+--     inList          the elements of a list, bits or degrees, by their places
 --
 -- Assumes nothing.
 use mathlib.Core.Path.{_≡_, refl, sym, ap, ap₂, _∙_}
@@ -17,6 +18,8 @@ use native.Mathlib.Nat.{le-refl, le-trans, le-suc, lt-suc-self, lt-of-not-le, no
 use native.Mathlib.Decide.{le-ind}
 use native.Mathlib.Numerals.{add-one}
 use native.Mathlib.Omega.{arith}
+use mathlib.Core.List.{List}
+use lib.ListN.{getD}
 use Rattle.keymap.specs.Bits.{sumBelow}
 
 module _ (f : ℕ → ℕ) where
@@ -60,3 +63,7 @@ pub sumBelow-ext : (f g : ℕ → ℕ) (n : ℕ) → ((j : ℕ) → j < n → f 
 unfolding sumBelow
 sumBelow-ext f g zero h = refl
 sumBelow-ext f g (suc n) h = ap₂ (λ (x y : ℕ). x + y) (sumBelow-ext f g n (λ j l. h j (le-trans l (le-suc n)))) (h n (lt-suc-self n))
+
+-- 0 behind its end
+abbrev pub inList : List ℕ → ℕ → ℕ
+inList xs i = getD xs i 0

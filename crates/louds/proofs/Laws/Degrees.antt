@@ -15,7 +15,7 @@ use native.Mathlib.Omega.{arith}
 use lib.ListN.{length, getD, take}
 use Rattle.keymap.specs.Bits.{bit, sumBelow, pack}
 use Rattle.keymap.specs.Degrees.{unary, total, sequence}
-use Rattle.keymap.proofs.Laws.Sums.{sumBelow-zero, sumBelow-suc, sumBelow-first, sumBelow-add, sumBelow-ext, sumBelow-none}
+use Rattle.keymap.proofs.Laws.Sums.{sumBelow-zero, sumBelow-suc, sumBelow-first, sumBelow-add, sumBelow-ext, sumBelow-none, inList}
 use Rattle.keymap.proofs.Laws.Bits.{bit-pack}
 use Rattle.keymap.proofs.Laws.Degrees.{sequence-unary, unary-one, unary-past, sequence-small, length-unary, total-take}
 use Rattle.louds.specs.declared.answers.Spot.the-variants.{At}
@@ -26,10 +26,6 @@ use Rattle.louds.specs.Nodes.{childrenOf}
 use Rattle.louds.proofs.Laws.Rank.{gap-one, gap-zero, gap-ext, gap-small}
 use Rattle.louds.proofs.Laws.Select.{kth-rank}
 use Rattle.louds.proofs.Laws.Nodes.{children-to-zero, children-agree}
-
--- the elements of a list as bits, or as degrees
-abbrev inList : List ℕ → ℕ → ℕ
-inList xs i = getD xs i 0
 
 -- ---- the zeros before a place
 

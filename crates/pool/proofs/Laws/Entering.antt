@@ -240,9 +240,10 @@ module _ (p q : Pool) (i b m a x : ℕ) (s : SoundBut p i) (node : Node p i) (by
       known c h = ⊎-elim (λ (e : c ≡ i). subst (λ (k : ℕ). Children q k) (sym e) here) (λ ne. there c h ne) (equal-or-not c i)
 
 -- the steps that enter a record
-pub enter-steps : (p : Pool) (i b m : ℕ) (s : Slot) → m ≡ nextRecord p → s ≡ slotOf p i b → taken (linked (filled p m b (s .next) i) i (s .prev) m) m ≡ entered p i b
+pub enter-steps : (p : Pool) (i b m : ℕ) (s : Slot) → m ≡ nextRecord p → s ≡ slotOf p i b
+    → (q r t : Pool) → q ≡ filled p m b (s .next) i → r ≡ linked q i (s .prev) m → t ≡ taken r m → t ≡ entered p i b
 unfolding entered enteredAt
-enter-steps p i b m s e f = rw (e, f)
+enter-steps p i b m s e f q r t fill link take = rw (take, link, fill, e, f)
 
 -- ---- one record entered where it can be
 module _ (p : Pool) (i b : ℕ) (can : CanEnter p i b) where

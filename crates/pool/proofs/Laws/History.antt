@@ -8,6 +8,7 @@
 --     reset-run-count                                 and its use count is the number of that map's distinct nonempty prefixes
 --     empty-catalogue                                 the empty map is a catalogue
 --     prefixes-insertAll                              inserts take no prefix away
+--     pushes-lent                                     the entries of a proper map can be pushed
 --     fits-says                                       a nonempty key for which there is room is accepted
 --     refill-says, refill-map                         a sound pool counts as reset and then given the keys that it holds: all are accepted, and leave its map
 -- Assumes nothing.
@@ -22,10 +23,10 @@ use borrow.Author.Tests.{ne-eqb, eqb-false, leb-true, le-leb}
 use Rattle.keymap.specs.Limits.{valueLimit}
 use Rattle.keymap.specs.Key.{Key, Bytes}
 use Rattle.keymap.specs.Map.{Entry, Map, Rising, Proper, Catalogue, insert, insertAll}
-use Rattle.keymap.specs.Prefixes.{deepest, levels, prefixes}
+use Rattle.keymap.specs.Prefixes.{prefixes}
 use Rattle.keymap.specs.Refusals.{Refusal, refuses}
 use Rattle.keymap.proofs.Laws.Map.{insert-rising, insert-catalogue, insertAll-self}
-use Rattle.keymap.proofs.Laws.Prefixes.{prefixes-insert}
+use Rattle.keymap.proofs.Laws.Prefixes.{prefixes-empty, prefixes-insert}
 use Rattle.records.specs.Words.{Pool, recordWords, usedCount, Bounded, capacity}
 use Rattle.records.specs.Sound.{Sound}
 use Rattle.records.specs.Meaning.{poolMap}
@@ -110,10 +111,6 @@ run-map (c ∷ cs) p s l =
 pub empty-catalogue : Catalogue []
 empty-catalogue = record { rising = tt; proper = tt }
 
-empty-prefixes : length (prefixes []) ≡ 0
-unfolding prefixes levels deepest
-empty-prefixes = refl
-
 nonempty-key : (k : Key) → eqb (length k) 0 ≡ false → ¬ (k ≡ [])
 nonempty-key k e s = eqb-false (length k) 0 e (ap length s)
 
@@ -130,7 +127,7 @@ module _ (most : ℕ) (m : Map) (c : Catalogue m) (few : length (prefixes m) ≤
       go false e false f = rw (e, f) (c, few)
 
   pub call-within : (d : PoolCall) → LentCall d → Catalogue (callMap most m d) × (length (prefixes (callMap most m d)) ≤ most)
-  call-within PoolCall.reset l = (empty-catalogue, omega (arith, empty-prefixes))
+  call-within PoolCall.reset l = (empty-catalogue, omega (arith, ap length prefixes-empty))
   call-within (PoolCall.push k v) l = push-within k v l
   call-within PoolCall.useCount l = (c, few)
 
@@ -158,7 +155,7 @@ module _ (p : Pool) (h : recordWords ≤ length p) (cs : List PoolCall) (lent : 
 
   -- and it is a catalogue that the pool has room for
   pub reset-run-within : Catalogue (mapRun (capacity p) [] cs) × (length (prefixes (mapRun (capacity p) [] cs)) ≤ capacity p)
-  reset-run-within = run-within (capacity p) cs [] empty-catalogue (omega (arith, empty-prefixes)) lent
+  reset-run-within = run-within (capacity p) cs [] empty-catalogue (omega (arith, ap length prefixes-empty)) lent
 
 -- ---- a pool that was not reset here
 pub prefixes-insertAll : (es m : Map) → Rising m → length (prefixes m) ≤ length (prefixes (insertAll es m))
@@ -167,7 +164,7 @@ prefixes-insertAll [] m r = omega arith
 prefixes-insertAll (e ∷ es) m r =
     omega (arith, prefixes-insert (e .0) (e .1) m r, prefixes-insertAll es (insert (e .0) (e .1) m) (insert-rising (e .0) (e .1) m r))
 
-pushes-lent : (m : Map) → Proper m → AllLent (pushesOf m)
+pub pushes-lent : (m : Map) → Proper m → AllLent (pushesOf m)
 pushes-lent [] p = tt
 pushes-lent (e ∷ m) p = ((p .1, p .2), pushes-lent m (p .3))
 

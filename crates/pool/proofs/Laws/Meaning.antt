@@ -7,17 +7,16 @@
 --     missing-means-missing the labels that the walk misses are the prefixes that the map misses
 --     room-means-prefixes   there is room exactly if the map with the key has no more distinct nonempty prefixes than capacity
 --     present-accepted      a key that is present is accepted, also in a full pool
---     reset-push            the first key fits exactly if it has no more bytes than capacity
 -- Assumes nothing.
-use Prim.Native.Nat.{ℕ, _+_, _-_, _≤_, _<_}
+use Prim.Native.Nat.{ℕ, _+_, _-_, _≤_}
 use mathlib.Core.Path.{_≡_, refl, sym, _∙_, ap, subst}
-use mathlib.Core.Bool.{true, false, cond}
+use mathlib.Core.Bool.{true, false}
 use mathlib.Core.List.{[], _∷_, _++_, append-assoc, append-nil}
 use mathlib.Core.Logic.{_⊎_, inl, inr, ⊎-elim, _↔_}
 use mathlib.Core.Option.{none, some}
 use native.Mathlib.Omega.{arith}
 use native.Mathlib.Nat.{mod-eq-of-lt}
-use lib.ListN.{length, drop, length-append}
+use lib.ListN.{length, drop}
 use lib.Dec.{leb}
 use borrow.Author.Tests.{lt-leb, le-leb}
 use Rattle.keymap.specs.Label.{mark, labelIn}
@@ -25,7 +24,6 @@ use Rattle.keymap.specs.Key.{Key, Bytes}
 use Rattle.keymap.specs.Map.{Entry, insert, lookup}
 use Rattle.keymap.specs.Members as members
 use Rattle.keymap.specs.Prefixes.{prefixes, missing}
-use Rattle.keymap.specs.Refusals.{Refusal, refuses}
 use Rattle.keymap.proofs.Laws.Map.{insert-rising, insert-iff, map-members}
 use Rattle.keymap.proofs.Laws.Members.{members-none}
 use Rattle.keymap.proofs.Laws.Prefixes.{prefixes-insert, missing-present}
@@ -33,7 +31,7 @@ use Rattle.records.specs.Words.{Pool, recordWords, word, entry, label, value, r
 use Rattle.records.specs.Sound.{Sound}
 use Rattle.records.specs.Spelling.{ChildBy, Spells}
 use Rattle.records.specs.Meaning.{poolMap, Holds}
-use Rattle.records.proofs.Laws.Distinct.{equal-or-not, below-or-not}
+use Rattle.records.proofs.Laws.Distinct.{equal-or-not}
 use Rattle.records.proofs.Laws.Words.{next-unused, in-use-taken, in-use-stays, next-in-use}
 use Rattle.records.proofs.Laws.Sound.{used-within, none-in-use}
 use Rattle.records.proofs.Laws.SoundTest.{sound-test}
@@ -49,8 +47,8 @@ use Rattle.pool.specs.Push.{insertedAt, inserted, hasRoom, pushSays, pus
 use Rattle.pool.proofs.Laws.Path.{Split, reach-split, split-rest, split-missing}
 use Rattle.pool.proofs.Laws.Writing.{marked-other, marked-entry, marked-value, marked-label, marked-last}
 use Rattle.pool.proofs.Laws.Entering.{Entered, enter-words, can-enter, can-enter-rest, EnteredAll, entered-all, parent-or-root, node-inside}
-use Rattle.pool.proofs.Laws.Reset.{length-reset, reset-sound, reset-count}
-use Rattle.pool.proofs.Laws.Push.{tested-full, tested-done, push-tested, push-accepted, can-insert, end-in-use, insert-keeps}
+use Rattle.pool.proofs.Laws.Reset.{reset-sound, reset-count}
+use Rattle.pool.proofs.Laws.Push.{tested-done, push-tested, push-accepted, can-insert, end-in-use, insert-keeps}
 
 -- ---- a record entered
 module _ (p : Pool) (i b : ℕ) (can : CanEnter p i b) where
@@ -298,26 +296,3 @@ module _ (p : Pool) (key : Key) (s : Sound p) (nonempty : length key ≡ 0 → �
       let z = missing-present key w (poolMap p) (map-rising p s) e in
       let n = missing-means-missing in
       sym (tested-done p key nonempty (omega (arith, used-within p s)) ∙ push-tested p key (s .rooted) (sound-test p s))
-
--- ---- the first push
-reset-unspelled : (p : Pool) → recordWords ≤ length p → (k : Key) (c : ℕ) → Spells (resetPool p) 0 k c → length k ≡ 0
-reset-unspelled p h [] c s = refl
-reset-unspelled p h (b ∷ bs) c s = absurd (none-in-use (resetPool p) (reset-sound p h) (reset-count p h) (s .0) (s .1 .0))
-
--- into a pool that was just reset a key fits exactly if it has no more bytes than capacity
-pub reset-push : (p : Pool) (key : Key) → recordWords ≤ length p → (length key ≡ 0 → ⊥)
-    → pushSays (resetPool p) key ≡ cond (leb (length key) (capacity p)) (0 ∷ []) (refuses Refusal.NoRoom)
-reset-push p key h nonempty =
-    let s = reset-sound p h in
-    let c = reach-split (resetPool p) (s .children) key in
-    let z = reset-unspelled p h (c .there) (reachOf (resetPool p) key .at) (c .spells) in
-    let len = length-reset p in
-    let missed : missingLabels (resetPool p) key ≡ length key = omega (arith, split-missing (resetPool p) key c, ap length (c .whole), length-append (c .there) (c .rest)) in
-    ⊎-elim
-    (λ (l : capacity p < length key).
-    sym (tested-full (resetPool p) key nonempty (omega arith) ∙ push-tested (resetPool p) key (s .rooted) (sound-test (resetPool p) s))
-    ∙ sym (rw (lt-leb (length key) (capacity p) l)))
-    (λ (l : length key ≤ capacity p).
-    sym (tested-done (resetPool p) key nonempty (omega (arith, reset-count p h)) ∙ push-tested (resetPool p) key (s .rooted) (sound-test (resetPool p) s))
-    ∙ sym (rw (le-leb (length key) (capacity p) l)))
-    (below-or-not (capacity p) (length key))

@@ -31,6 +31,11 @@ module _ (p : Pool) (c b x i : ℕ) where
   abbrev siblingPut : Pool
   siblingPut = put childPut c 3 x
 
+  -- the steps that fill a record
+  pub filled-steps : (q₁ q₂ q₃ q₄ q₅ : Pool) → q₁ ≡ put p c 0 b → q₂ ≡ put q₁ c 1 0 → q₃ ≡ put q₂ c 2 0 → q₄ ≡ put q₃ c 3 x → q₅ ≡ put q₄ c 4 i → q₅ ≡ filled p c b x i
+  unfolding filled
+  filled-steps q₁ q₂ q₃ q₄ q₅ e₁ e₂ e₃ e₄ e₅ = rw (e₅, e₄, e₃, e₂, e₁)
+
   pub length-filled : length (filled p c b x i) ≡ length p
   unfolding filled
   length-filled = simp length-put

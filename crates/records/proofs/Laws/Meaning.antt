@@ -7,7 +7,6 @@
 --     map-rising, map-catalogue    the map rises, and is one that a pool can hold
 --     map-forest          it is the forest's listing
 --     map-holds           its entries are the keys that marked records spell, with their values
---     map-tree            its tree is the forest
 --     map-prefixes        its distinct nonempty prefixes are the paths of the records in use
 --     count-prefixes      so they are as many as the records in use
 --     count-forest        and as the nodes of the forest
@@ -32,9 +31,9 @@ use Rattle.keymap.specs.Members as members
 use mathlib.Core.List.{List·Memᴰ·not-nil, List·Memᴰ·cases-cons}
 use Rattle.keymap.specs.Queries.{SomeBegins}
 use Rattle.keymap.specs.Prefixes.{prefixes, missing}
-use Rattle.keymap.specs.Forest.{Forest, empty, node, Tree, bare, branch, descend, valueAt, grow, treeOf, listForest, listTree, Above, Live, Orderly, size}
+use Rattle.keymap.specs.Forest.{Forest, empty, node, Tree, bare, branch, descend, valueAt, grow, listForest, listTree, Above, Live, Orderly, size}
 use Rattle.keymap.proofs.Laws.Forest.{freshLabel, freshNodes, valueAt-bare, valueAt-descend, grow-orderly, size-grow}
-use Rattle.keymap.proofs.Laws.Listing.{lookup-listTree, listTree-rising, listTree-grow, treeOf-listTree}
+use Rattle.keymap.proofs.Laws.Listing.{lookup-listTree, listTree-rising, listTree-grow}
 use Rattle.keymap.proofs.Laws.Map.{lookup-iff}
 use Rattle.keymap.proofs.Laws.Begins.{prefix-iff, prefix-append}
 use Rattle.keymap.proofs.Laws.Members.{in-map, distinct-same, ordered-weak, ordered-map}
@@ -255,10 +254,6 @@ module _ (p : Pool) (s : Sound p) where
   pub map-rising : Rising (poolMap p)
   unfolding poolMap
   map-rising = listTree-rising (none, poolForest p) forest-orderly
-
-  pub map-tree : treeOf (poolMap p) ≡ (none, poolForest p)
-  unfolding poolMap
-  map-tree = treeOf-listTree (none, poolForest p) forest-orderly
 
   map-lookup : (k : Key) → lookup k (poolMap p) ≡ valueAt k (none, poolForest p)
   unfolding poolMap

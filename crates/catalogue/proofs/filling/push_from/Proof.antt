@@ -1,10 +1,11 @@
 -- `catalogue::filling::push_from` meets its contract: what is said of the lines from `at` on, pushed into the pool as it stands, is what is said of all. Assumes nothing.
-use Prim.Native.Nat.{_+_, _-_, _≤_}
+use Prim.Native.Nat.{ℕ, _+_, _-_, _≤_}
 use native.Mathlib.Omega.{arith}
 use native.Mathlib.Numerals.{add-one}
-use mathlib.Core.Path.{_≡_, refl, sym, ap, _∙_}
+use mathlib.Core.Path.{_≡_, refl, sym, ap, ap₂, _∙_}
 use lib.ListN.{length, drop}
 use borrow.Author.Needs.{needs}
+use Rattle.records.specs.Words.{Pool}
 use Rattle.lines.specs.Text.{linesOf}
 use Rattle.lines.proofs.Laws.Text.{Cuts, next-none, next-cuts}
 use Rattle.lines.specs.Answers.{saidCut}
@@ -45,8 +46,15 @@ returns c =
     let done = fill-end (i .line) (i .pool) _ none-left in
     (done .0 ∙ sym (i .inv .2), done .1 ∙ sym (i .inv .3))
 
+-- ---- the states that the needs look back to: a wrong count of steps is refused here, by its type
+abbrev to-start : tie.After-known-told Inv-loop μ-loop → tie.Start Inv-loop μ-loop
+to-start c = c .before .before .before .before .before .before .before
+
+abbrev to-known-told : tie.After-pool Inv-loop μ-loop → tie.After-known-told Inv-loop μ-loop
+to-known-told c = c .before .before .before .before
+
 -- the line that was cut
-cut : (c : tie.After-known-told Inv-loop μ-loop) → Cuts (c .before .before .before .before .before .before .before .args .text .now) (c .before .before .before .before .loop .at) (c .before .end .given .0 .0) (c .before .end .given .0 .1 .0)
+cut : (c : tie.After-known-told Inv-loop μ-loop) → Cuts (to-start c .args .text .now) (c .before .before .before .before .loop .at) (c .before .end .given .0 .0) (c .before .end .given .0 .1 .0)
 cut c = next-cuts _ _ _ _ (sym (c .before .before .before .next-line .ensures) ∙ ap saidCut (c .before .end .given .1))
 
 sub-push-line : tie.Need-sub-push-line Inv-loop μ-loop
@@ -66,8 +74,10 @@ same-length-2 c = search needs
 
 returns-2 : tie.Need-returns-2 Inv-loop μ-loop
 returns-2 c =
-    let i = c .before .before .before .before .before .before .before .before .before .before .loop in
-    let k = cut (c .before .before .before .before .before .before) in
+    let at-known-told = to-known-told (c .before .before) in
+    let at-loop = at-known-told .before .before .before .before in
+    let i = at-loop .loop in
+    let k = cut at-known-told in
     let stops = fill-stops (i .line) (i .pool) _ _ _ (c .before .before .before .push-line .ensures .0) (c .if1 .taken) in (
       stops .0 ∙ sym (i .inv .2 ∙ ap (fillFrom (i .line) (i .pool)) (k .lines)),
       c .before .before .before .push-line .ensures .1 ∙ stops .1 ∙ sym (i .inv .3 ∙ ap (leftFrom (i .pool)) (k .lines)),
@@ -75,24 +85,33 @@ returns-2 c =
 
 add-line : tie.Need-add-line Inv-loop μ-loop
 add-line c =
-    let k = cut (c .before .before .before .before .before .before) in
-    omega (arith, k .moves, k .within, c .before .before .before .before .before .before .before .before .before .before .loop .inv .0, c .before .before .before .before .before .before .before .before .before .before .before .before .before .good .0 .1)
+    let at-known-told = to-known-told (c .before .before) in
+    let at-loop = at-known-told .before .before .before .before in
+    let start = at-loop .before .before .before in
+    let k = cut at-known-told in
+    omega (arith, k .moves, k .within, at-loop .loop .inv .0, start .good .0 .1)
 
 loop-less : tie.Need-loop-less Inv-loop μ-loop
 loop-less c =
-    let k = cut (c .before .before .before .before .before .before) in
+    let at-known-told = to-known-told (c .before .before) in
+    let k = cut at-known-told in
     omega (arith, k .moves, k .within)
 
 loop-again : tie.Need-loop-again Inv-loop μ-loop
 loop-again c =
-    let i = c .before .before .before .before .before .before .before .before .before .before .loop in
-    let k = cut (c .before .before .before .before .before .before) in
-    let goes = fill-goes (i .line) (i .pool) _ (linesOf (drop (c .before .before .before .before .before .before .before .end .given .0 .1 .0) (c .before .before .before .before .before .before .before .before .before .before .before .before .before .args .text .now))) _ (c .before .before .before .push-line .ensures .0) (c .if1 .left) in
+    let at-known-told = to-known-told (c .before .before) in
+    let at-end = at-known-told .before in
+    let at-loop = at-end .before .before .before in
+    let start = at-loop .before .before .before in
+    let i = at-loop .loop in
+    let k = cut at-known-told in
+    let rest = linesOf (drop (at-end .end .given .0 .1 .0) (start .args .text .now)) in
+    let goes = fill-goes (i .line) (i .pool) _ rest _ (c .before .before .before .push-line .ensures .0) (c .if1 .left) in
     let left = c .before .before .before .push-line .ensures .1 in (
       omega (arith, k .moves, i .inv .0),
       c .before .before .before .push-line .kept .1 .0 ∙ i .inv .1,
-      i .inv .2 ∙ ap (fillFrom (i .line) (i .pool)) (k .lines) ∙ goes .0 ∙ rw (left, add-one (i .line)),
-      i .inv .3 ∙ ap (leftFrom (i .pool)) (k .lines) ∙ goes .1 ∙ rw left,
+      i .inv .2 ∙ ap (fillFrom (i .line) (i .pool)) (k .lines) ∙ goes .0 ∙ ap₂ (λ (n : ℕ) (p : Pool). fillFrom n p rest) (sym (add-one (i .line))) (sym left),
+      i .inv .3 ∙ ap (leftFrom (i .pool)) (k .lines) ∙ goes .1 ∙ ap (λ (p : Pool). leftFrom p rest) (sym left),
     )
 
 pub push-from-spec : {M : Type 1} → statement M

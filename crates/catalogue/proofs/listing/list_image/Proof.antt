@@ -46,10 +46,26 @@ other (inr (inr e)) = omega arith
 wrote-length : (n k : ℕ) → 0 ∷ n ∷ [] ≡ 0 ∷ k ∷ [] → n ≡ k
 wrote-length n k e = cc
 
+-- ---- the states that the needs look back to: a wrong count of steps is refused here, by its type
+abbrev to-start : tie.After-predictive-search Inv-loop μ-loop → tie.Start Inv-loop μ-loop
+to-start c = c .before .before .before .before .before .before
+
+abbrev to-predictive-search : tie.After-step Inv-loop μ-loop → tie.After-predictive-search Inv-loop μ-loop
+to-predictive-search c = c .before .before .before .before .before
+
+abbrev to-known-told2 : tie.After-out Inv-loop μ-loop → tie.After-known-told2 Inv-loop μ-loop
+to-known-told2 c = c .before .before .before
+
+abbrev to-out : tie.After-known-told3 Inv-loop μ-loop → tie.After-out Inv-loop μ-loop
+to-out c = c .before .before .before .before
+
+abbrev to-spelled : tie.After-out2 Inv-loop μ-loop → tie.After-spelled Inv-loop μ-loop
+to-spelled c = c .before .before .before .before
+
 -- what the step gave, and what is then put
-turn : (c : tie.After-known-told2 Inv-loop μ-loop) → Turn (imageAt (c .before .before .before .before .before .before .before .before .before .before .before .before .before .before)) (c .before .before .before .before .before .before .before .before .before .before .before .before .before .before .args .out .now) (c .before .before .before .before .loop .cursor) (c .before .before .before .before .loop .at) (c .before .before .before .before .loop .out) (c .before .value .given .0 .1 .0) (c .before .value .given .0 .1 .1 .0)
+turn : (c : tie.After-known-told2 Inv-loop μ-loop) → Turn (imageAt (to-start (to-predictive-search (c .before .before .before)))) (to-start (to-predictive-search (c .before .before .before)) .args .out .now) (c .before .before .before .before .loop .cursor) (c .before .before .before .before .loop .at) (c .before .before .before .before .loop .out) (c .before .value .given .0 .1 .0) (c .before .value .given .0 .1 .1 .0)
 turn c =
-    let start = c .before .before .before .before .before .before .before .before .before .before .before .before .before .before in
+    let start = to-start (to-predictive-search (c .before .before .before)) in
     listing-turn (imageAt start) (start .pre .0) (start .args .out .now) _ _ _ (c .before .before .before .before .loop .inv .1) (start .pre .1) _ _ _ (ap saidStepped (sym (c .before .value .given .1)) ∙ c .before .before .before .step .ensures)
 
 slice-aggregate-predictive-search : tie.Need-slice-aggregate-predictive-search Inv-loop μ-loop
@@ -66,12 +82,12 @@ enum-told c = c .match .keys2
 
 returns : tie.Need-returns Inv-loop μ-loop
 returns c =
-    let start = c .before .before .before .before .before .before .before .before in
+    let start = to-start (c .before .before) in
     absurd (start-told (imageAt start) (start .pre .0) _ (ap saidStarted (sym (c .enum-told .given .1)) ∙ c .before .before .predictive-search .ensures))
 
 loop-holds : tie.Need-loop-holds Inv-loop μ-loop
 loop-holds c =
-    let start = c .before .before .before .before .before .before .before .before .before in
+    let start = to-start (c .before .before .before) in
     (refl, listing-starts (imageAt start) (start .pre .0) (start .args .out .now) (c .before .start .given .0 .0) (ap saidStarted (sym (c .before .start .given .1)) ∙ c .before .before .before .predictive-search .ensures))
 
 step-requires : tie.Need-step-requires Inv-loop μ-loop
@@ -85,12 +101,12 @@ same-length c = c .before .before .loop .inv .0
 
 returns-2 : tie.Need-returns-2 Inv-loop μ-loop
 returns-2 c =
-    let start = c .before .before .before .before .before .before .before .before .before .before .before .before in
+    let start = to-start (to-predictive-search (c .before)) in
     listing-ends (imageAt start) (start .pre .0) (start .args .out .now) _ _ _ (c .before .before .loop .inv .1) (c .before .step .result) (c .before .step .ensures) (λ n v d e. other (subst (λ (r : Stepped). OneOf (1 ∷ 2 ∷ 3 ∷ []) (tagOf of-stepped.the-type r)) e (c .match2 .keys2)))
 
 sub-cursor-key : tie.Need-sub-cursor-key Inv-loop μ-loop
 sub-cursor-key c =
-    let start = c .before .before .before .before .before .before .before .before .before .before .before .before .before .before in
+    let start = to-start (to-predictive-search (c .before .before .before)) in
     listing-within (imageAt start) (start .pre .0) (start .args .out .now) _ _ _ (c .before .before .before .before .loop .inv .1) (start .pre .1)
 
 part-cursor-key-start : tie.Need-part-cursor-key-start Inv-loop μ-loop
@@ -107,43 +123,61 @@ enum-known-spelled c = c .match3 .keys1
 
 same-length-2 : tie.Need-same-length-2 Inv-loop μ-loop
 same-length-2 c =
-    let i = c .before .before .before .before .before .before .before .before .before .loop in
+    let at-loop = to-known-told2 (c .before .before) .before .before .before .before in
+    let i = at-loop .loop in
     let key = c .before .before .before .cursor-key in
     same-len-mid (i .at) (length (i .out) - i .at) (i .out) (key .last .1 .1 .1 .1 .0) (key .kept .1 .1 .1 .1 .0) ∙ i .inv .0
 
 returns-3 : tie.Need-returns-3 Inv-loop μ-loop
 returns-3 c =
-    let t = turn (c .before .before .before .before .before) in
+    let at-known-told2 = to-known-told2 (c .before .before) in
+    let t = turn at-known-told2 in
     let wrote : c .before .before .before .cursor-key .result ≡ spelled.Wrote (length (t .key)) = saidSpelled-one _ _ (c .before .before .before .cursor-key .ensures .0 ∙ t .says) in
     absurd (other (subst (λ (r : Spelled). OneOf (1 ∷ 2 ∷ 3 ∷ []) (tagOf of-spelled.the-type r)) wrote (c .match3 .keys2)))
 
 -- the key that was put
-spelled-key : (c : tie.After-known-told3 Inv-loop μ-loop) → c .before .spelled .given .0 .0 ≡ length (turn (c .before .before .before .before .before .before .before) .key)
-spelled-key c = wrote-length _ _ (ap saidSpelled (sym (c .before .spelled .given .1)) ∙ c .before .before .before .before .before .cursor-key .ensures .0 ∙ turn (c .before .before .before .before .before .before .before) .says)
+spelled-key : (c : tie.After-known-told3 Inv-loop μ-loop) → c .before .spelled .given .0 .0 ≡ length (turn (to-known-told2 (to-out c)) .key)
+spelled-key c =
+    let at-cursor-key = to-out c .before in
+    let at-known-told2 = at-cursor-key .before .before in
+    wrote-length _ _ (ap saidSpelled (sym (c .before .spelled .given .1)) ∙ at-cursor-key .cursor-key .ensures .0 ∙ turn at-known-told2 .says)
 
 add-put-value : tie.Need-add-put-value Inv-loop μ-loop
 add-put-value c =
-    let t = turn (c .before .before .before .before .before .before .before) in
-    record { fits = omega (arith, spelled-key c, t .room, c .before .before .before .before .before .before .before .before .before .before .before .loop .inv .0, c .before .before .before .before .before .before .before .before .before .before .before .before .before .before .before .before .before .before .before .before .before .good .1 .1 .1 .0 .0) }
+    let at-known-told2 = to-known-told2 (to-out c) in
+    let at-loop = at-known-told2 .before .before .before .before in
+    let start = to-start (at-loop .before .before .before .before) in
+    let t = turn at-known-told2 in
+    record { fits = omega (arith, spelled-key c, t .room, at-loop .loop .inv .0, start .good .1 .1 .1 .0 .0) }
 
 put-value-requires : tie.Need-put-value-requires Inv-loop μ-loop
 put-value-requires c κs =
-    let i = c .before .before .before .before .before .before .before .before .before .before .before .before .loop in
-    let key = c .before .before .before .before .before .before .cursor-key in
+    let at-cursor-key = to-out (c .before) .before in
+    let at-known-told2 = at-cursor-key .before .before in
+    let at-loop = at-known-told2 .before .before .before .before in
+    let i = at-loop .loop in
+    let key = at-cursor-key .cursor-key in
     let size = same-len-mid (i .at) (length (i .out) - i .at) (i .out) (key .last .1 .1 .1 .1 .0) (key .kept .1 .1 .1 .1 .0) in
-    omega (arith, spelled-key (c .before), turn (c .before .before .before .before .before .before .before .before) .room, size)
+    omega (arith, spelled-key (c .before), turn at-known-told2 .room, size)
 
 loop-less : tie.Need-loop-less Inv-loop μ-loop
-loop-less c = turn (c .before .before .before .before .before .before .before .before .before .before .before) .less
+loop-less c =
+    let at-known-told2 = to-known-told2 (to-spelled (c .before) .before .before .before) in
+    turn at-known-told2 .less
 
 loop-again : tie.Need-loop-again Inv-loop μ-loop
 loop-again c =
-    let i = c .before .before .before .before .before .before .before .before .before .before .before .before .before .before .before .loop in
-    let t = turn (c .before .before .before .before .before .before .before .before .before .before .before) in
-    let key = c .before .before .before .before .before .before .before .before .before .cursor-key in
+    let at-spelled = to-spelled (c .before) in
+    let at-cursor-key = at-spelled .before .before .before .before in
+    let at-known-told2 = at-cursor-key .before .before in
+    let at-value = at-known-told2 .before in
+    let at-loop = at-value .before .before .before in
+    let i = at-loop .loop in
+    let t = turn at-known-told2 in
+    let key = at-cursor-key .cursor-key in
     let put = c .before .before .put-value in
-    let tail : List ℕ = tabText ([], c .before .before .before .before .before .before .before .before .before .before .before .before .value .given .0 .1 .0) in
-    let spelled-at : i .at + c .before .before .before .before .before .spelled .given .0 .0 ≡ i .at + length (t .key) = ap (λ (n : ℕ). i .at + n) (spelled-key (c .before .before .before .before)) in
+    let tail : List ℕ = tabText ([], at-value .value .given .0 .1 .0) in
+    let spelled-at : i .at + at-spelled .spelled .given .0 .0 ≡ i .at + length (t .key) = ap (λ (n : ℕ). i .at + n) (spelled-key (c .before .before .before .before)) in
     let written = ap (λ (ys : List ℕ). putMid (i .at) (length (i .out) - i .at) (i .out) ys) (key .ensures .1) ∙ t .left in (
       put .kept .1 .1 .0 ∙ same-len-mid (i .at) (length (i .out) - i .at) (i .out) (key .last .1 .1 .1 .1 .0) (key .kept .1 .1 .1 .1 .0) ∙ i .inv .0,
       t .then _ _ (put .ensures .0 ∙ ap (λ (n : ℕ). n + length tail) spelled-at)

@@ -19,9 +19,16 @@ array-share-prefix-digits c = search needs
 slice-aggregate-put-text : tie.Need-slice-aggregate-put-text
 slice-aggregate-put-text c = search needs
 
+-- ---- the states that the needs look back to: a wrong count of steps is refused here, by its type
+abbrev to-start : tie.After-digits2 → tie.Start
+to-start c = c .before .before .before .before
+
+abbrev to-decimal : tie.After-out → tie.After-decimal
+to-decimal c = c .before .before .before .before
+
 put-text-requires : tie.Need-put-text-requires
 put-text-requires c κs =
-    let start = c .before .before .before .before .before in
+    let start = to-start (c .before) in
     let d = c .before .before .decimal in
     let spelled = d .ensures .1 .1 ∙ fewest-decimal _ _ (d .ensures .1 .0) in
     omega (arith, start .pre, ap length spelled)
@@ -31,9 +38,10 @@ same-length c = search needs
 
 returns : tie.Need-returns
 returns c =
-    let start = c .before .before .before .before .before .before .before .before in
+    let at-decimal = to-decimal (c .before) in
+    let start = at-decimal .before .before .before in
     let a = start .args in
-    let d = c .before .before .before .before .before .decimal in
+    let d = at-decimal .decimal in
     let p = c .before .before .put-text .ensures in
     let spelled = d .ensures .1 .1 ∙ fewest-decimal _ _ (d .ensures .1 .0) in (
       p .0 ∙ ap (λ (t : List ℕ). a .at + length t) spelled,

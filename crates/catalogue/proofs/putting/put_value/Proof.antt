@@ -19,10 +19,21 @@ put-text-requires c κs =
     let start = c .before .before .before in
     omega (arith, start .pre, length-tabText ([], start .args .value))
 
+-- ---- the states that the needs look back to: a wrong count of steps is refused here, by its type
+abbrev to-start : tie.After-put-text → tie.Start
+to-start c = c .before .before .before .before
+
+abbrev to-put-text : tie.After-put-number → tie.After-put-text
+to-put-text c = c .before .before .before .before
+
+abbrev to-put-number : tie.After-put-text2 → tie.After-put-number
+to-put-number c = c .before .before .before .before .before
+
 put-number-requires : tie.Need-put-number-requires
 put-number-requires c κs =
-    let start = c .before .before .before .before .before .before .before in
-    let tabbed = c .before .before .before .put-text in
+    let at-put-text = c .before .before .before in
+    let start = to-start at-put-text in
+    let tabbed = at-put-text .put-text in
     omega (arith, start .pre, length-tabText ([], start .args .value), tabbed .ensures .0, tabbed .kept .1 .1 .0)
 
 slice-aggregate-put-text-2 : tie.Need-slice-aggregate-put-text-2
@@ -30,9 +41,11 @@ slice-aggregate-put-text-2 c = search needs
 
 put-text-requires-2 : tie.Need-put-text-requires-2
 put-text-requires-2 c κs =
-    let start = c .before .before .before .before .before .before .before .before .before .before .before .before in
-    let tabbed = c .before .before .before .before .before .before .before .before .put-text in
-    let numbered = c .before .before .before .before .put-number in
+    let at-put-number = c .before .before .before .before in
+    let at-put-text = to-put-text at-put-number in
+    let start = to-start at-put-text in
+    let tabbed = at-put-text .put-text in
+    let numbered = at-put-number .put-number in
     omega (arith, start .pre, length-tabText ([], start .args .value), tabbed .ensures .0, tabbed .kept .1 .1 .0, numbered .ensures .0, numbered .kept .1 .1 .0)
 
 same-length : tie.Need-same-length
@@ -40,10 +53,13 @@ same-length c = search needs
 
 returns : tie.Need-returns
 returns c =
-    let start = c .before .before .before .before .before .before .before .before .before .before .before .before .before .before .before in
-    let tabbed = c .before .before .before .before .before .before .before .before .before .before .before .put-text in
-    let numbered = c .before .before .before .before .before .before .before .put-number in
-    let ended = c .before .before .put-text2 in
+    let at-put-text2 = c .before .before in
+    let at-put-number = to-put-number at-put-text2 in
+    let at-put-text = to-put-text at-put-number in
+    let start = to-start at-put-text in
+    let tabbed = at-put-text .put-text in
+    let numbered = at-put-number .put-number in
+    let ended = at-put-text2 .put-text2 in
     let a = start .args in
     let out = a .out .now in
     let d = decimal (a .value) in

@@ -19,9 +19,13 @@ ones-before-requires c κs = search needs
 add-if1 : tie.Need-add-if1
 add-if1 c = search needs
 
+-- ---- the states that the needs look back to: a wrong count of steps is refused here, by its type
+abbrev to-start : tie.After-ones-before → tie.Start
+to-start c = c .before .before .before .before
+
 returns : tie.Need-returns
 returns c =
-    let s = c .before .before .before .before .before in
+    let s = to-start (c .before) in
     let a = s .args in
     sym (count-stop (a .labels .now) (a .values .now) (a .words .now) (s .pre .1) (λ e. c .if1 .taken (c .before .ones-before .ensures ∙ e)))
 
@@ -30,21 +34,22 @@ entries-fit-requires c κs = search needs
 
 returns-2 : tie.Need-returns-2
 returns-2 c =
-    let s = c .before .before .before .before .before .before .before in
+    let s = to-start (c .before .before .before) in
     let a = s .args in
     sym (entries-stop (a .labels .now) (a .values .now) (a .words .now) (s .pre .1) (sym (c .before .entries-fit .ensures) ∙ not-true _ (c .if2 .taken)))
 
 -- what is known of the words then
-counted : (c : tie.Else1) → Counted (c .before .before .before .before .before .args .labels .now) (c .before .before .before .before .before .args .words .now)
+counted : (c : tie.Else1) → Counted (to-start (c .before) .args .labels .now) (to-start (c .before) .args .words .now)
 counted c =
-    record { framed = c .before .before .before .before .before .pre .1; ones = sym (c .before .ones-before .ensures) ∙ c .if1 .left }
+    let start = to-start (c .before) in
+    record { framed = start .pre .1; ones = sym (c .before .ones-before .ensures) ∙ c .if1 .left }
 
 words-fit-requires : tie.Need-words-fit-requires
 words-fit-requires c κs = counted (c .before .before)
 
 returns-3 : tie.Need-returns-3
 returns-3 c =
-    let s = c .before .before .before .before .before .before .before .before in
+    let s = to-start (c .before .before .before .before) in
     let a = s .args in
     c .words-fit .ensures ∙ words-pass (a .labels .now) (a .values .now) (a .words .now) (counted (c .before .before .before)) (sym (c .before .before .entries-fit .ensures) ∙ not-false _ (c .before .if2 .left))
 

@@ -24,22 +24,42 @@ abbrev μ-loop : tie.MeasureT-loop
 words-for-requires : tie.Need-words-for-requires Inv-loop μ-loop
 words-for-requires c κs = search needs
 
+-- ---- the states that the needs look back to: a wrong count of steps is refused here, by its type
+abbrev to-start : tie.After-words-for Inv-loop μ-loop → tie.Start Inv-loop μ-loop
+to-start c = c .before .before .before .before
+
+abbrev to-clear : tie.After-words2 Inv-loop μ-loop → tie.After-clear Inv-loop μ-loop
+to-clear c = c .before .before .before .before .before
+
+abbrev to-loop : tie.After-record-at Inv-loop μ-loop → tie.At-loop Inv-loop μ-loop
+to-loop c = c .before .before .before
+
+abbrev to-record-at : tie.After-queue Inv-loop μ-loop → tie.After-record-at Inv-loop μ-loop
+to-record-at c = c .before .before .before .before .before .before
+
 clear-requires : tie.Need-clear-requires Inv-loop μ-loop
-clear-requires c κs = omega (arith, c .before .words-for .ensures, c .before .before .before .before .before .pre .words-fit)
+clear-requires c κs =
+    let start = to-start (c .before) in
+    omega (arith, c .before .words-for .ensures, start .pre .words-fit)
 
 put-one-requires : tie.Need-put-one-requires Inv-loop μ-loop
 put-one-requires c κs = search needs
 
 start-words : (c : tie.After-slice-known4 Inv-loop μ-loop)
-    → c .before .before .put-one .last .0 ≡ withOne (over (replicate (wordsFor (bitsFor (c .before .before .before .before .before .before .before .before .before .before .before .before .args .n))) 0) (c .before .before .before .before .before .before .before .before .before .before .before .before .args .words .now)) 0
+    → c .before .before .put-one .last .0 ≡ withOne (over (replicate (wordsFor (bitsFor (to-start (to-clear (c .before) .before .before) .args .n))) 0) (to-start (to-clear (c .before) .before .before) .args .words .now)) 0
 start-words c =
+    let at-clear = to-clear (c .before) in
+    let at-words-for = at-clear .before .before in
+    let start = to-start at-words-for in
     c .before .before .put-one .ensures
-    ∙ ap (λ (ws : List ℕ). withOne ws 0) (c .before .before .before .before .before .before .clear .ensures ∙ ap (λ (w : ℕ). over (replicate w 0) (c .before .before .before .before .before .before .before .before .before .before .before .before .args .words .now)) (c .before .before .before .before .before .before .before .before .words-for .ensures))
+    ∙ ap (λ (ws : List ℕ). withOne ws 0) (at-clear .clear .ensures ∙ ap (λ (w : ℕ). over (replicate w 0) (start .args .words .now)) (at-words-for .words-for .ensures))
 
-start-levels : (c : tie.After-slice-known4 Inv-loop μ-loop) → Levels (c .before .before .before .before .before .before .before .before .before .before .before .before .args .pool .now) (c .before .before .before .before .before .before .before .before .before .before .before .before .args .n) (c .before .before .put-one .last .0) (c .before .before .before .before .before .before .before .before .before .before .before .before .args .queue .now)
+start-levels : (c : tie.After-slice-known4 Inv-loop μ-loop) → Levels (to-start (to-clear (c .before) .before .before) .args .pool .now) (to-start (to-clear (c .before) .before .before) .args .n) (c .before .before .put-one .last .0) (to-start (to-clear (c .before) .before .before) .args .queue .now)
 start-levels c =
-    let h = c .before .before .before .before .before .before .before .before .before .before .before .before .pre in
-    record { sound = h .sound; count = h .count; words-fit = omega (arith, h .words-fit, c .before .before .put-one .kept .0, c .before .before .before .before .before .before .clear .kept .0); queue-fits = h .queue-fits }
+    let at-clear = to-clear (c .before) in
+    let start = to-start (at-clear .before .before) in
+    let h = start .pre in
+    record { sound = h .sound; count = h .count; words-fit = omega (arith, h .words-fit, c .before .before .put-one .kept .0, at-clear .clear .kept .0); queue-fits = h .queue-fits }
 
 loop-holds : tie.Need-loop-holds Inv-loop μ-loop
 loop-holds c = let h = start-levels c in (omega arith, refl, h, turn-first _ _ _ _ h _ (start-words c))
@@ -48,36 +68,65 @@ record-at-requires : tie.Need-record-at-requires Inv-loop μ-loop
 record-at-requires c κs = let i = c .before .before .loop in omega (arith, turn-length _ _ _ _ (i .inv .2) _ _ _ _ _ (i .inv .3), i .inv .2 .queue-fits, c .before .loop-test .taken)
 
 queue-children-requires : tie.Need-queue-children-requires Inv-loop μ-loop
-queue-children-requires c κs = let i = c .before .before .before .before .before .loop in turn-asks _ _ _ _ (i .inv .2) _ _ _ _ _ (i .inv .3) (c .before .before .before .before .loop-test .taken) _ (c .before .before .record-at .ensures) (omega (arith, c .before .before .before .before .before .before .before .before .before .before .before .before .before .before .before .before .before .before .fits .n))
+queue-children-requires c κs =
+    let at-loop = to-loop (c .before .before) in
+    let start = to-start (to-clear (at-loop .before .before) .before .before) in
+    let i = at-loop .loop in turn-asks _ _ _ _ (i .inv .2) _ _ _ _ _ (i .inv .3) (c .before .before .before .before .loop-test .taken) _ (c .before .before .record-at .ensures) (omega (arith, start .fits .n))
 
 add-tail : tie.Need-add-tail Inv-loop μ-loop
-add-tail c = let i = c .before .before .before .before .before .before .before .before .before .before .loop in omega (arith, c .before .before .before .before .queue-children .ensures .0, turn-room _ _ _ _ (i .inv .2) _ _ _ _ _ (i .inv .3) (c .before .before .before .before .before .before .before .before .before .loop-test .taken) _ (c .before .before .before .before .before .before .before .record-at .ensures), c .before .before .before .before .before .before .before .before .before .before .before .before .before .before .before .before .before .before .before .before .before .before .before .fits .n)
+add-tail c =
+    let at-record-at = to-record-at (c .before) in
+    let in-loop = at-record-at .before .before in
+    let at-loop = in-loop .before in
+    let start = to-start (to-clear (at-loop .before .before) .before .before) in
+    let i = at-loop .loop in omega (arith, c .before .before .before .before .queue-children .ensures .0, turn-room _ _ _ _ (i .inv .2) _ _ _ _ _ (i .inv .3) (in-loop .loop-test .taken) _ (at-record-at .record-at .ensures), start .fits .n)
 
 add-at : tie.Need-add-at Inv-loop μ-loop
-add-at c = let i = c .before .before .before .before .before .before .before .before .before .before .loop in omega (arith, c .before .before .before .before .queue-children .ensures .0, turn-room _ _ _ _ (i .inv .2) _ _ _ _ _ (i .inv .3) (c .before .before .before .before .before .before .before .before .before .loop-test .taken) _ (c .before .before .before .before .before .before .before .record-at .ensures), c .before .before .before .before .before .before .before .before .before .before .before .before .before .before .before .before .before .before .before .before .before .before .before .fits .n)
+add-at c =
+    let at-record-at = to-record-at (c .before) in
+    let in-loop = at-record-at .before .before in
+    let at-loop = in-loop .before in
+    let start = to-start (to-clear (at-loop .before .before) .before .before) in
+    let i = at-loop .loop in omega (arith, c .before .before .before .before .queue-children .ensures .0, turn-room _ _ _ _ (i .inv .2) _ _ _ _ _ (i .inv .3) (in-loop .loop-test .taken) _ (at-record-at .record-at .ensures), start .fits .n)
 
 add-at-2 : tie.Need-add-at-2 Inv-loop μ-loop
-add-at-2 c = let i = c .before .before .before .before .before .before .before .before .before .before .loop in omega (arith, c .before .before .before .before .queue-children .ensures .0, turn-place _ _ _ _ (i .inv .2) _ _ _ _ _ (i .inv .3) (c .before .before .before .before .before .before .before .before .before .loop-test .taken) _ (c .before .before .before .before .before .before .before .record-at .ensures), c .before .before .before .before .before .before .before .before .before .before .before .before .before .before .before .before .before .before .before .before .before .before .before .fits .n)
+add-at-2 c =
+    let at-record-at = to-record-at (c .before) in
+    let in-loop = at-record-at .before .before in
+    let at-loop = in-loop .before in
+    let start = to-start (to-clear (at-loop .before .before) .before .before) in
+    let i = at-loop .loop in omega (arith, c .before .before .before .before .queue-children .ensures .0, turn-place _ _ _ _ (i .inv .2) _ _ _ _ _ (i .inv .3) (in-loop .loop-test .taken) _ (at-record-at .record-at .ensures), start .fits .n)
 
 add-k : tie.Need-add-k Inv-loop μ-loop
-add-k c = let l = c .before .before .before .before .before .before .before .before .before .loop-test .taken in omega (arith, c .before .before .before .before .before .before .before .before .before .before .before .before .before .before .before .before .before .before .before .before .before .before .before .fits .n)
+add-k c =
+    let in-loop = to-record-at (c .before) .before .before in
+    let start = to-start (to-clear (in-loop .before .before .before) .before .before) in
+    let l = in-loop .loop-test .taken in omega (arith, start .fits .n)
 
 loop-less : tie.Need-loop-less Inv-loop μ-loop
-loop-less c = let l = c .before .before .before .before .before .before .before .before .before .loop-test .taken in omega arith
+loop-less c =
+    let in-loop = to-record-at (c .before) .before .before in
+    let l = in-loop .loop-test .taken in omega arith
 
 loop-again : tie.Need-loop-again Inv-loop μ-loop
 loop-again c =
-    let i = c .before .before .before .before .before .before .before .before .before .before .loop in
+    let at-record-at = to-record-at (c .before) in
+    let in-loop = at-record-at .before .before in
+    let at-loop = in-loop .before in
+    let i = at-loop .loop in
     let q = c .before .before .before .before .queue-children in
-    let l = c .before .before .before .before .before .before .before .before .before .loop-test .taken in (
+    let l = in-loop .loop-test .taken in (
       omega arith,
       q .kept .1 .1 .0 ∙ i .inv .1,
       i .inv .2,
-      turn-next _ _ _ _ (i .inv .2) _ _ _ _ _ (i .inv .3) l _ (c .before .before .before .before .before .before .before .record-at .ensures) _ _ _ (q .ensures .0) (q .ensures .1 .0) (q .ensures .1 .1),
+      turn-next _ _ _ _ (i .inv .2) _ _ _ _ _ (i .inv .3) l _ (at-record-at .record-at .ensures) _ _ _ (q .ensures .0) (q .ensures .1 .0) (q .ensures .1 .1),
     )
 
 same-length : tie.Need-same-length Inv-loop μ-loop
-same-length c = let k = c .before .before .before .before .before .before .before .before .before .before .before .before in c .before .loop .inv .1 ∙ c .before .before .before .before .put-one .kept .0 ∙ c .before .before .before .before .before .before .before .before .clear .kept .0
+same-length c =
+    let at-clear = to-clear (c .before .before .before) in
+    let k = at-clear .before .before .before .before in
+    c .before .loop .inv .1 ∙ c .before .before .before .before .put-one .kept .0 ∙ at-clear .clear .kept .0
 
 same-length-2 : tie.Need-same-length-2 Inv-loop μ-loop
 same-length-2 c = let i = c .before .loop in turn-length _ _ _ _ (i .inv .2) _ _ _ _ _ (i .inv .3)

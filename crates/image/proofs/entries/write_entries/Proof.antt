@@ -24,20 +24,30 @@ loop-holds c = (omega arith, refl, refl, sym (over-none _), sym (over-none _))
 mul-c : tie.Need-mul-c Inv-loop μ-loop
 mul-c c = omega arith
 
+-- ---- the states that the needs look back to: a wrong count of steps is refused here, by its type
+abbrev to-start : tie.At-loop Inv-loop μ-loop → tie.Start Inv-loop μ-loop
+to-start c = c .before .before .before .before .before
+
 shared-slice-read-c : tie.Need-shared-slice-read-c Inv-loop μ-loop
-shared-slice-read-c c = omega (arith, c .before .before .before .before .before .before .before .pre .listed)
+shared-slice-read-c c =
+    let start = to-start (c .before .before) in
+    omega (arith, start .pre .listed)
 
 entry-of-requires : tie.Need-entry-of-requires Inv-loop μ-loop
 entry-of-requires c κs = search needs
 
 cast-labels : tie.Need-cast-labels Inv-loop μ-loop
-cast-labels c = omega (arith, c .entry-of .ensures, c .before .before .before .before .before .before .before .before .pre .small (c .before .before .before .loop .j) (c .before .before .loop-test .taken))
+cast-labels c =
+    let start = to-start (c .before .before .before) in
+    omega (arith, c .entry-of .ensures, start .pre .small (c .before .before .before .loop .j) (c .before .before .loop-test .taken))
 
 mul-labels : tie.Need-mul-labels Inv-loop μ-loop
 mul-labels c = omega arith
 
 slice-write-labels : tie.Need-slice-write-labels Inv-loop μ-loop
-slice-write-labels c = omega (arith, c .before .before .before .before .before .before .before .before .pre .labels-fit)
+slice-write-labels c =
+    let start = to-start (c .before .before .before) in
+    omega (arith, start .pre .labels-fit)
 
 value-of-requires : tie.Need-value-of-requires Inv-loop μ-loop
 value-of-requires c κs = search needs
@@ -46,7 +56,9 @@ mul-values : tie.Need-mul-values Inv-loop μ-loop
 mul-values c = omega arith
 
 slice-write-values : tie.Need-slice-write-values Inv-loop μ-loop
-slice-write-values c = omega (arith, c .before .before .before .before .before .before .before .before .before .pre .values-fit)
+slice-write-values c =
+    let start = to-start (c .before .before .before .before) in
+    omega (arith, start .pre .values-fit)
 
 add-j : tie.Need-add-j Inv-loop μ-loop
 add-j c = omega arith
@@ -56,9 +68,10 @@ loop-less c = omega arith
 
 loop-again : tie.Need-loop-again Inv-loop μ-loop
 loop-again c =
-    let a = c .before .before .before .before .before .before .before .before .before .args in
+    let start = to-start (c .before .before .before .before) in
+    let a = start .args in
     let i = c .before .before .before .before .loop in
-    let h = c .before .before .before .before .before .before .before .before .before .pre in
+    let h = start .pre in
     let l : i .j < a .n = omega arith in (
       omega arith,
       simp length-set (i .inv .1),
@@ -75,7 +88,8 @@ same-length-2 c = c .before .loop .inv .2
 
 returns : tie.Need-returns Inv-loop μ-loop
 returns c =
-    let a = c .before .before .before .before .before .before .args in
+    let start = to-start (c .before) in
+    let a = start .args in
     let e : c .before .loop .j ≡ a .n = omega arith in (
       c .before .loop .inv .3 ∙ ap (λ (k : ℕ). over (map (entry (a .pool .now)) (take k (a .order .now))) (a .labels .now)) e,
       c .before .loop .inv .4 ∙ ap (λ (k : ℕ). over (map (value (a .pool .now)) (take k (a .order .now))) (a .values .now)) e,

@@ -45,19 +45,26 @@ mul-x c = search needs
 shared-slice-read-x : tie.Need-shared-slice-read-x Inv-loop μ-loop
 shared-slice-read-x c = search needs
 
+-- ---- the states that the needs look back to: a wrong count of steps is refused here, by its type
+abbrev to-start : tie.In-loop Inv-loop μ-loop → tie.Start Inv-loop μ-loop
+to-start c = c .before .before .before .before
+
+abbrev to-loop : tie.After-ones-in Inv-loop μ-loop → tie.At-loop Inv-loop μ-loop
+to-loop c = c .before .before .before .before .before
+
 mul-at : tie.Need-mul-at Inv-loop μ-loop
 mul-at c =
-    let s = c .before .before .before .before .before in
+    let s = to-start (c .before) in
     omega (arith, at-inside (s .args .labels .now) (s .args .words .now) (s .pre) (c .before .before .loop .w) (c .before .loop-test .taken), s .pre .framed .few)
 
 sub-word-fits : tie.Need-sub-word-fits Inv-loop μ-loop
 sub-word-fits c =
-    let s = c .before .before .before .before .before in
+    let s = to-start (c .before) in
     at-inside (s .args .labels .now) (s .args .words .now) (s .pre) (c .before .before .loop .w) (c .before .loop-test .taken)
 
 word-fits-requires : tie.Need-word-fits-requires Inv-loop μ-loop
 word-fits-requires c κs =
-    let s = c .before .before .before .before .before in
+    let s = to-start (c .before) in
     let a = s .args in
     let l = c .before .before .loop in
     let inside = word-inside (a .labels .now) (a .words .now) (s .pre) (l .w) (c .before .loop-test .taken) in
@@ -65,9 +72,10 @@ word-fits-requires c κs =
 
 -- what `word_fits` says
 said : (c : tie.After-word-fits Inv-loop μ-loop)
-    → c .word-fits .result ≡ wordAt (c .before .before .before .before .before .before .args .labels .now) (c .before .before .before .before .before .before .args .words .now) (c .before .before .before .loop .w)
+    → c .word-fits .result ≡ wordAt (to-start (c .before .before) .args .labels .now) (to-start (c .before .before) .args .words .now) (c .before .before .before .loop .w)
 said c =
-    let a = c .before .before .before .before .before .before .args in
+    let start = to-start (c .before .before) in
+    let a = start .args in
     let l = c .before .before .before .loop in
     c .word-fits .ensures
     ∙ ap₂ (λ (u v : ℕ). wordFits (a .labels .now) (getD (a .words .now) (l .w) 0) v (l .w * 64) u (bitsFor (length (a .labels .now)) - l .w * 64)) (l .inv .1) (l .inv .2)
@@ -75,7 +83,8 @@ said c =
 
 returns : tie.Need-returns Inv-loop μ-loop
 returns c =
-    let a = c .before .before .before .before .before .before .before .args in
+    let start = to-start (c .before .before .before) in
+    let a = start .args in
     let l = c .before .before .before .before .loop in
     sym (all-stop (wordAt (a .labels .now) (a .words .now)) (length (a .words .now)) (l .w) (c .before .before .before .loop-test .taken) (sym (said (c .before)) ∙ not-true _ (c .if1 .taken)))
 
@@ -84,16 +93,18 @@ ones-in-requires c κs = search needs
 
 -- the ones before the next word
 step : (c : tie.After-ones-in Inv-loop μ-loop)
-    → c .before .before .before .before .before .loop .before + c .ones-in .result ≡ onesBefore (bit (c .before .before .before .before .before .before .before .before .args .words .now)) ((c .before .before .before .before .before .loop .w + 1) * 64)
+    → to-loop c .loop .before + c .ones-in .result ≡ onesBefore (bit (to-loop c .before .before .before .args .words .now)) ((to-loop c .loop .w + 1) * 64)
 step c =
-    let s = c .before .before .before .before .before .before .before .before in
-    let l = c .before .before .before .before .before .loop in
+    let at-loop = to-loop c in
+    let s = at-loop .before .before .before in
+    let l = at-loop .loop in
     ap₂ (λ (u v : ℕ). u + v) (l .inv .1) (c .ones-in .ensures) ∙ sym (ones-whole (s .args .words .now) (l .w) (s .pre .framed .wide (l .w)))
 
 add-before : tie.Need-add-before Inv-loop μ-loop
 add-before c =
-    let s = c .before .before .before .before .before .before .before .before in
-    let l = c .before .before .before .before .before .loop in
+    let at-loop = to-loop c in
+    let s = at-loop .before .before .before in
+    let l = at-loop .loop in
     let ws = s .args .words .now in
     omega (
       arith,
@@ -111,8 +122,10 @@ loop-less c = search needs
 
 loop-again : tie.Need-loop-again Inv-loop μ-loop
 loop-again c =
-    let a = c .before .before .before .before .before .before .before .before .args in
-    let l = c .before .before .before .before .before .loop in (
+    let at-loop = to-loop c in
+    let start = at-loop .before .before .before in
+    let a = start .args in
+    let l = at-loop .loop in (
       omega arith,
       step c,
       sym (lastBefore-next (a .words .now) (l .w)),

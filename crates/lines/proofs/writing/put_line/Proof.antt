@@ -35,9 +35,17 @@ put-bytes-requires c κs =
     let a = c .before .before .before .args in
     omega (arith, length-tabText (a .key .now, a .number))
 
+-- ---- the states that the needs look back to: a wrong count of steps is refused here, by its type
+abbrev to-start : tie.After-out → tie.Start
+to-start c = c .before .before .before .before .before
+
+abbrev to-put-bytes : tie.After-out2 → tie.After-put-bytes
+to-put-bytes c = c .before .before .before .before .before
+
 slice-write-out : tie.Need-slice-write-out
 slice-write-out c =
-    let a = c .before .before .before .before .before .before .args in
+    let start = to-start (c .before) in
+    let a = start .args in
     omega (arith, c .before .before .put-bytes .kept .1 .0, length-tabText (a .key .now, a .number))
 
 add-put-decimal : tie.Need-add-put-decimal
@@ -55,12 +63,12 @@ add-out c = search needs
 
 add-out-2 : tie.Need-add-out-2
 add-out-2 c =
-    let start = c .before .before .before .before .before .before .before .before .before .before in
+    let start = to-put-bytes (c .before) .before .before .before .before in
     omega (arith, start .pre .0, start .pre .1, length-tabText (start .args .key .now, start .args .number))
 
 slice-write-out-2 : tie.Need-slice-write-out-2
 slice-write-out-2 c =
-    let keyed = c .before .before .before .before .before .before in
+    let keyed = to-put-bytes (c .before) in
     let start = keyed .before .before .before .before in
     let a = start .args in
     omega (
@@ -75,7 +83,7 @@ slice-write-out-2 c =
 
 same-length : tie.Need-same-length
 same-length c =
-    let keyed = c .before .before .before .before .before .before in
+    let keyed = to-put-bytes (c .before) in
     let numbered = c .before .before in
     let a = keyed .before .before .before .before .args in
     length-set (numbered .put-decimal .last .1 .1 .1 .0) (length (a .key .now) + 1 + a .digits) lineFeed
@@ -85,9 +93,11 @@ same-length c =
 
 returns : tie.Need-returns
 returns c =
-    let a = c .before .before .before .before .before .before .before .before .before .before .args in
-    let p = c .before .before .before .before .before .before .before .before .before .before .pre in
-    put (a .key .now) _ _ (a .out .now) (a .number) (a .digits) (p .0) (p .1) (c .before .before .before .before .before .before .put-bytes .ensures) (c .before .before .put-decimal .ensures)
+    let at-put-bytes = to-put-bytes (c .before) in
+    let start = at-put-bytes .before .before .before .before in
+    let a = start .args in
+    let p = start .pre in
+    put (a .key .now) _ _ (a .out .now) (a .number) (a .digits) (p .0) (p .1) (at-put-bytes .put-bytes .ensures) (c .before .before .put-decimal .ensures)
 
 pub put-line-spec : {M : Type 1} → statement M
 put-line-spec =

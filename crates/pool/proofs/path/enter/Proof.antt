@@ -19,20 +19,44 @@ add-m c = search needs
 slot-of-requires : tie.Need-slot-of-requires
 slot-of-requires c κs = search needs
 
+-- ---- the states that the needs look back to: a wrong count of steps is refused here, by its type
+abbrev start : tie.After-slot-of → tie.Start
+start c = c .before .before .before .before .before
+
+abbrev placed : tie.After-fill → tie.After-slot-of
+placed c = c .before .before
+
+abbrev filling : tie.After-link → tie.After-fill
+filling c = c .before .before .before .before
+
+abbrev linking : tie.After-take → tie.After-link
+linking c = c .before .before .before .before
+
 fill-requires : tie.Need-fill-requires
-fill-requires c κs = omega (arith, c .before .before .before .last-record .ensures, next-last (c .before .before .before .before .before .before .args .pool .now), next-inside _ _ _ (c .before .before .before .before .before .before .pre))
+fill-requires c κs =
+    let s = start (c .before) in
+    omega (arith, c .before .before .before .last-record .ensures, next-last (s .args .pool .now), next-inside _ _ _ (s .pre))
 
 link-requires : tie.Need-link-requires
-link-requires c κs = let k = c .before .before .before .before .before .before .before .before .before .before .pre in (omega (arith, c .before .before .before .fill .kept, node-inside _ _ _ (k .sound) (k .node)), omega (arith, c .before .before .before .fill .kept, prev-inside _ _ _ k _ (c .before .before .before .before .before .slot-of .ensures)))
+link-requires c κs =
+    let f = c .before .before .before in
+    let k = start (placed f) .pre in
+    (omega (arith, f .fill .kept, node-inside _ _ _ (k .sound) (k .node)), omega (arith, f .fill .kept, prev-inside _ _ _ k _ (placed f .slot-of .ensures)))
 
 take-requires : tie.Need-take-requires
 take-requires c κs = search needs
 
 same-length : tie.Need-same-length
-same-length c = c .before .before .take .kept .0 ∙ c .before .before .before .before .before .before .link .kept .0 ∙ c .before .before .before .before .before .before .before .before .before .before .fill .kept .0
+same-length c = let t = c .before .before in t .take .kept .0 ∙ linking t .link .kept .0 ∙ filling (linking t) .fill .kept .0
 
 returns : tie.Need-returns
-returns c = let m : c .before .before .before .before .before .before .before .before .before .before .before .before .before .before .last-record .result + 1 ≡ nextRecord (c .before .before .before .before .before .before .before .before .before .before .before .before .before .before .before .before .before .args .pool .now) = omega (arith, c .before .before .before .before .before .before .before .before .before .before .before .before .before .before .last-record .ensures, next-last (c .before .before .before .before .before .before .before .before .before .before .before .before .before .before .before .before .before .args .pool .now)) in (m, (rw (c .before .before .take .ensures, c .before .before .before .before .before .before .link .ensures, c .before .before .before .before .before .before .before .before .before .before .fill .ensures)) ∙ enter-steps _ _ _ _ _ m (c .before .before .before .before .before .before .before .before .before .before .before .before .slot-of .ensures))
+returns c =
+    let t = c .before .before in
+    let l = linking t in
+    let f = filling l in
+    let s = placed f in
+    let m : s .before .before .last-record .result + 1 ≡ nextRecord (start s .args .pool .now) = omega (arith, s .before .before .last-record .ensures, next-last (start s .args .pool .now)) in
+    (m, enter-steps _ _ _ _ _ m (s .slot-of .ensures) _ _ _ (f .fill .ensures) (l .link .ensures) (t .take .ensures))
 
 pub enter-spec : {M : Type 1} → statement M
 enter-spec =

@@ -28,8 +28,19 @@ capacity-of-requires c κs = search needs
 root-fits-requires : tie.Need-root-fits-requires
 root-fits-requires c κs = search needs
 
+-- ---- the states that the needs look back to: a wrong count of steps is refused here, by its type
+abbrev to-value-of : tie.After-root-fits → tie.After-value-of
+to-value-of c = c .before .before .before .before
+
+abbrev to-parent-of : tie.After-all-records → tie.After-parent-of
+to-parent-of c = c .before .before .before .before .before
+
 returns-2 : tie.Need-returns-2
-returns-2 c = let e = sound-root _ _ _ _ _ _ (c .before .before .before .before .before .before .before .if1 .left) (c .before .before .before .before .before .before .last-record .ensures) (c .before .before .capacity-of .ensures) (c .before .before .before .before .before .value-of .ensures) (c .before .before .before .before .next-sibling .ensures) (c .before .before .before .parent-of .ensures) (sym (c .before .root-fits .ensures) ∙ not-true _ (c .if2 .taken)) in (e, said-means-sound _ _ e)
+returns-2 c =
+    let at-value-of = to-value-of (c .before) in
+    let at-last-record = at-value-of .before in
+    let at-else1 = at-last-record .before in
+    let e = sound-root _ _ _ _ _ _ (at-else1 .if1 .left) (at-last-record .last-record .ensures) (c .before .before .capacity-of .ensures) (at-value-of .value-of .ensures) (c .before .before .before .before .next-sibling .ensures) (c .before .before .before .parent-of .ensures) (sym (c .before .root-fits .ensures) ∙ not-true _ (c .if2 .taken)) in (e, said-means-sound _ _ e)
 
 used-count-requires : tie.Need-used-count-requires
 used-count-requires c κs = search needs
@@ -38,7 +49,13 @@ all-records-requires : tie.Need-all-records-requires
 all-records-requires c κs = omega (arith, root-fits-within _ _ _ _ _ (sym (c .before .before .root-fits .ensures) ∙ not-false _ (c .before .if2 .left)))
 
 returns-3 : tie.Need-returns-3
-returns-3 c = let e = c .all-records .ensures ∙ sound-pass _ _ _ _ _ _ (c .before .before .before .before .before .before .before .before .before .if1 .left) (c .before .before .before .before .before .before .before .before .last-record .ensures) (c .before .before .before .before .capacity-of .ensures) (c .before .before .before .before .before .before .before .value-of .ensures) (c .before .before .before .before .before .before .next-sibling .ensures) (c .before .before .before .before .before .parent-of .ensures) _ (c .before .used-count .ensures) (sym (c .before .before .before .root-fits .ensures) ∙ not-false _ (c .before .before .if2 .left)) in (e, said-means-sound _ _ e)
+returns-3 c =
+    let at-parent-of = to-parent-of c in
+    let at-next-sibling = at-parent-of .before in
+    let at-value-of = at-next-sibling .before in
+    let at-last-record = at-value-of .before in
+    let at-else1 = at-last-record .before in
+    let e = c .all-records .ensures ∙ sound-pass _ _ _ _ _ _ (at-else1 .if1 .left) (at-last-record .last-record .ensures) (c .before .before .before .before .capacity-of .ensures) (at-value-of .value-of .ensures) (at-next-sibling .next-sibling .ensures) (at-parent-of .parent-of .ensures) _ (c .before .used-count .ensures) (sym (c .before .before .before .root-fits .ensures) ∙ not-false _ (c .before .before .if2 .left)) in (e, said-means-sound _ _ e)
 
 pub is-sound-spec : {M : Type 1} → statement M
 is-sound-spec =

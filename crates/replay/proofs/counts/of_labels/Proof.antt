@@ -1,8 +1,8 @@
--- `replay::memory::of_labels` meets its contract: the smaller of the two numbers counts within the slice. Assumes nothing.
+-- `replay::counts::of_labels` meets its contract: the smaller of the two numbers counts within the slice. Assumes nothing.
 use Rattle.io.proofs.Counting.{counts}
 use native.Mathlib.Omega.{arith}
-use Rattle.replay.proofs.memory.of_labels.Statement.{statement}
-use Rattle.replay.proofs.memory.of_labels.Tie as tie
+use Rattle.replay.proofs.counts.of_labels.Statement.{statement}
+use Rattle.replay.proofs.counts.of_labels.Tie as tie
 
 returns : tie.Need-returns
 returns c = counts _ _ (omega arith)

@@ -1,4 +1,4 @@
-// What the public calls do once a pool is tested: they ask for a sound pool, and leave one.
+// A push into a pool that is tested: it asks for a sound pool, and leaves one.
 use crate::answers::Pushed;
 use crate::path::enter_all;
 use crate::path::reach_of;

@@ -1,32 +1,31 @@
 #!/usr/bin/env python3
-"""Looks whether the house is in order, which no proof says: no module of a crate needs itself by way of others, no line
-of `specs/` and of `src/` is longer than 120 characters, and no name stands for two public definitions of `specs/`.
-Prints what is not so; ends with 1 where there is any.
+"""Whether the house is in order, which no proof says.
 
     python3 -B tools/house.py
-"""
 
-import collections
-import pathlib
+says, in a second, which modules of a crate need themselves by way of others, which lines of `specs/` and `src/` are longer than
+120 characters (a text that the code has as a literal may be), and which name two files of `specs/` define. It ends with 1 where
+there is any.
+"""
 import re
 import sys
+from collections import defaultdict
+from pathlib import Path
 
-ROOT = pathlib.Path(__file__).resolve().parent.parent / 'crates'
+CRATES = Path(__file__).resolve().parents[1] / 'crates'
 WIDTH = 120
 
 
 def needs(crate):
-    """Which modules of a crate each of its modules imports from. What is imported as `crate::Name` stands in lib."""
-    files = {f.stem: f.read_text() for f in (crate / 'src').glob('*.rt')}
-    root = 'main' if 'main' in files else 'lib'
+    """The modules of a crate, each with those that it imports from. What is imported as `crate::Name` stands in lib or main."""
+    texts = {file.stem: re.sub(r'//.*', '', file.read_text('utf-8')) for file in (crate / 'src').glob('*.rt')}
+    top = 'main' if 'main' in texts else 'lib'
     found = {}
-    for module, text in files.items():
-        code = re.sub(r'//.*', '', text)
-        names = set(re.findall(r'\bcrate::(\w+)', code))
-        if module == root:
-            names |= set(re.findall(r'^\s*(?:pub )?use (\w+)::', code, re.M))
-            names &= set(files)
-        found[module] = {name if name in files else root for name in names} - {module}
+    for module, text in texts.items():
+        names = {name if name in texts else top for name in re.findall(r'\bcrate::(\w+)', text)}
+        if module == top:
+            names |= set(re.findall(r'^\s*(?:pub )?use (\w+)::', text, re.M)) & set(texts)
+        found[module] = names - {module}
     return found
 
 
@@ -36,42 +35,42 @@ def circles(found):
     def reached(module):
         seen, left = set(), [module]
         while left:
-            for name in found[left.pop()] - seen:
-                seen.add(name)
-                left.append(name)
+            new = found[left.pop()] - seen
+            seen |= new
+            left += new
         return seen
 
     return sorted(module for module in found if module in reached(module))
 
 
-def defined(text):
-    """The public names that a file of `specs/` defines, and the cases of its data."""
-    names = re.findall(r'^(?:abbrev |unfoldable )?pub (?:record |data )?([^\s:({]+)', text, re.M)
-    return set(names) - {'mod', 'use'}
+def wide(file):
+    for number, line in enumerate(file.read_text('utf-8').split('\n'), 1):
+        if len(line) > WIDTH and 'b"' not in line:
+            yield f'{file.relative_to(CRATES)}:{number}: {len(line)} characters'
+
+
+def defined(file):
+    """The names that a file of `specs/` defines for others."""
+    return set(re.findall(r'^(?:abbrev |unfoldable )?pub (?!mod |use )(?:record |data )?([^\s:({]+)', file.read_text('utf-8'), re.M))
 
 
 def main():
-    wrong = []
-    places = collections.defaultdict(list)
-    for crate in sorted(ROOT.iterdir()):
+    amiss, places = [], defaultdict(list)
+    for crate in sorted(CRATES.iterdir()):
         met = circles(needs(crate))
         if met:
-            wrong.append(f'{crate.name}: {", ".join(met)} need each other')
-        for file in sorted([*(crate / 'src').rglob('*.rt'), *(crate / 'specs').rglob('*.antt')]):
-            name = file.relative_to(ROOT)
-            text = file.read_text()
-            for number, line in enumerate(text.splitlines(), 1):
-                if len(line) > WIDTH:
-                    wrong.append(f'{name}:{number}: {len(line)} characters')
-            if file.suffix == '.antt':
-                for each in defined(text):
-                    places[each].append(str(name))
-    for each, files in sorted(places.items()):
-        if len(files) > 1:
-            wrong.append(f'{each} is defined in {" and ".join(files)}')
-    print('\n'.join(wrong), end='\n' if wrong else '')
-    sys.exit(1 if wrong else 0)
+            amiss.append(f'{crate.name}: {", ".join(met)} need each other')
+        specs = sorted((crate / 'specs').rglob('*.antt'))
+        for file in [*sorted((crate / 'src').rglob('*.rt')), *specs]:
+            amiss += wide(file)
+        for file in specs:
+            for name in defined(file):
+                places[name].append(str(file.relative_to(CRATES)))
+    amiss += [f'{name} is defined in {" and ".join(files)}' for name, files in sorted(places.items()) if len(files) > 1]
+    for line in amiss:
+        print(line)
+    return 1 if amiss else 0
 
 
 if __name__ == '__main__':
-    main()
+    sys.exit(main())

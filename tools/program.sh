@@ -4,12 +4,22 @@
 
 root=$(cd "$(dirname "$0")/.." && pwd -P)
 
-# build NAME: proves and links the program; what `rt` says is shown only where it fails
+# build NAME: proves and links the program. Stdout stays empty: a line for each crate as it is proved goes to stderr, and where
+# `rt` fails all that it said
 build() {
-    if ! said=$(cd "$root" && rt check "$1" 2>&1); then
+    echo "Proving $1 and the crates below it: some three minutes on two cores the first time, and a second once it is proved." >&2
+    if ! said=$(set -o pipefail && cd "$root" && rt check "$1" 2>&1 | tell); then
         printf '%s\n' "$said" >&2
         exit 1
     fi
+}
+
+# tell: passes on what `rt` says, and of it to stderr the line of each crate that was proved now
+tell() {
+    while IFS= read -r line; do
+        printf '%s\n' "$line"
+        case $line in 'rt: '*' proved ('*' s)') printf '%s\n' "${line#rt: }" >&2 ;; esac
+    done
 }
 
 # kit: the toolchain's folder, that of RATTLE_HOME or that of the `rt` on the path

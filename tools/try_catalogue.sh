@@ -1,9 +1,9 @@
 #!/usr/bin/env bash
-# Runs the program `catalogue_program` on files made here, at the limits of the scope document (module 8), and compares what it writes.
+# Runs the program `catalogue_program` on its sample and on files made here, at the limits of the scope document (module 8), and compares what it writes.
 #
 #     tools/try_catalogue.sh
 #
-# Prints a line for each case and ends with a count. Needs what tools/run_catalogue.sh needs.
+# Prints a line for each case and ends with a count. Needs what tools/run_catalogue.sh needs, and python3.
 set -eu
 . "$(dirname "$0")/program.sh"
 
@@ -51,6 +51,11 @@ letters() {
 bytes() {
     yes "$(printf 'a\t1')" | head -c "$1"
 }
+
+fresh
+cp "$root/crates/catalogue_program/data/sample.tsv" "$work/in/catalogue.tsv"
+python3 -B "$root/tools/readme.py" listing > "$work/wanted"
+compare 'the sample, as README.md shows it'
 
 on_text 'the file of 01' 'b\t3\nab\t7\n' 'ab\t7\nb\t3\n'
 on_text 'the last LF absent' 'b\t3\nab\t7' 'ab\t7\nb\t3\n'

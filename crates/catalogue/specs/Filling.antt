@@ -1,4 +1,5 @@
--- A text pushed into a pool (01, module 8): "A line that breaks the rule is 9 and is never pushed, so 9 comes before 3 and 4 here. The first refusal stops it".
+-- A text pushed into a pool (01, module 8): "A line that breaks the rule is 9 and is never pushed, so 9 comes before 3
+-- and 4 here. The first refusal stops it".
 -- What the text is answered is told without the pool in `TextAnswers`; here is what is left of the pool.
 --
 --     saidFilled            the answers: 0 where every line is pushed, the number and the line of a refusal
@@ -40,7 +41,8 @@ linePool p (some e) = pushPool p (e .0) (e .1)
 unfoldable pub fillFrom : ℕ → Pool → List (List ℕ) → List ℕ
 fillFrom n p [] = 0 ∷ []
 fillFrom n p (l ∷ ls) =
-    cond (accepted (lineSays p (tabEntry l))) (fillFrom (suc n) (linePool p (tabEntry l)) ls) (lineSays p (tabEntry l) ++ (n ∷ []))
+    cond (accepted (lineSays p (tabEntry l))) (fillFrom (suc n) (linePool p (tabEntry l)) ls)
+    (lineSays p (tabEntry l) ++ (n ∷ []))
 
 -- a refused line changes nothing, and nothing behind it is looked at
 unfoldable pub leftFrom : Pool → List (List ℕ) → Pool

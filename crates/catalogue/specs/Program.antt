@@ -1,7 +1,9 @@
 -- What the program writes (01, module 8), by what was read: the bytes of the file, or none where it could not be read.
 --
---     programText    "A file that can't be read gives only `no file` and LF"; more than 65,536 bytes only "`too long` and LF"; "The first refusal stops it, and
---                    then it writes only `refused`, space, number, ` line `, line number from 1, LF"; else "the listing in the same form, each line with LF"
+--     programText    "A file that can't be read gives only `no file` and LF"; more than 65,536 bytes only "`too long`
+--                    and LF"; "The first refusal stops it, and
+--                    then it writes only `refused`, space, number, ` line `, line number from 1, LF"; else "the listing
+--                    in the same form, each line with LF"
 --     answerText     the same of a text that was read, by what it is answered
 -- Assumes nothing.
 use Prim.Native.Nat.{ℕ}
@@ -33,7 +35,8 @@ lineWord = 32 ∷ 108 ∷ 105 ∷ 110 ∷ 101 ∷ 32 ∷ []
 unfoldable pub refusedText : (number line : ℕ) → List ℕ
 refusedText number line = refusedWord ++ (decimal number ++ (lineWord ++ (decimal line ++ (lineFeed ∷ []))))
 
--- by what `textSays` says: nothing of a text that is too long, the number and the line of a refusal, 0 where every line is pushed
+-- by what `textSays` says: nothing of a text that is too long, the number and the line of a refusal, 0 where every line
+-- is pushed
 abbrev pub answerText : Map → List ℕ → List ℕ
 answerText m [] = tooLongText
 answerText m (n ∷ []) = mapText m

@@ -1,4 +1,5 @@
--- A file read piece by piece (01, module 8): "at most 65,536 bytes (else it writes only `too long`)"; "A file that can't be read gives only `no file`".
+-- A file read piece by piece (01, module 8): "at most 65,536 bytes (else it writes only `too long`)"; "A file that
+-- can't be read gives only `no file`".
 --
 --     nothingRead   before the first read
 --     takeRead      after a read that answered a count: negative where it failed, 0 at the file's end
@@ -27,7 +28,8 @@ abbrev pub afterRead : ℕ → ℤ → Reading
 afterRead done (negsuc k) = record { done = done; over = true; whole = false }
 afterRead done (pos zero) = record { done = done; over = true; whole = true }
 afterRead done (pos (suc k)) =
-    cond (ltb (done + suc k) fileRoom) (record { done = done + suc k; over = false; whole = false }) (record { done = fileRoom; over = true; whole = true })
+    cond (ltb (done + suc k) fileRoom) (record { done = done + suc k; over = false; whole = false })
+    (record { done = fileRoom; over = true; whole = true })
 
 abbrev pub takeRead : Reading → ℤ → Reading
 takeRead r got = cond (r .over) r (afterRead (r .done) got)

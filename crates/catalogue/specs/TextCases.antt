@@ -1,6 +1,7 @@
 -- When a text is answered what (01, module 8), by the text and the pool's capacity alone.
 --
---     Cause           why a line is refused behind lines that left a map, with the number: "A line that breaks the rule is 9 and is never pushed, so 9 comes before 3 and 4"
+--     Cause           why a line is refused behind lines that left a map, with the number: "A line that breaks the rule
+--                     is 9 and is never pushed, so 9 comes before 3 and 4"
 --     Whole           a text whose lines are all pushed
 --     FirstRefusal    "The first refusal stops it": a line that has a cause, behind lines that are all pushed
 -- Assumes nothing.
@@ -19,8 +20,10 @@ use Rattle.catalogue.specs.TextAnswers.{entriesIn, AllEntries, textMap}
 
 pub data Cause (most : ℕ) (m : Map) (l : List ℕ) (number : ℕ) : Type 0 where
   bad : tabEntry l ≡ none → number ≡ refusalNumber Refusal.BadLine → Cause most m l number
-  emptyKey : (e : Entry) → tabEntry l ≡ some e → e .0 ≡ [] → number ≡ refusalNumber Refusal.EmptyKey → Cause most m l number
-  noRoom : (e : Entry) → tabEntry l ≡ some e → ¬ (e .0 ≡ []) → most < length (prefixes (insert (e .0) (e .1) m)) → number ≡ refusalNumber Refusal.NoRoom
+  emptyKey : (e : Entry) → tabEntry l ≡ some e → e .0 ≡ [] → number ≡ refusalNumber Refusal.EmptyKey
+      → Cause most m l number
+  noRoom : (e : Entry) → tabEntry l ≡ some e → ¬ (e .0 ≡ []) → most < length (prefixes (insert (e .0) (e .1) m))
+      → number ≡ refusalNumber Refusal.NoRoom
       → Cause most m l number
 
 pub record Whole (most : ℕ) (text : List ℕ) : Type 0 where

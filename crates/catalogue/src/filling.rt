@@ -29,10 +29,12 @@ pub fn fill(text: &[u8], pool: &mut [u32; POOL_WORDS]) -> Filled
     push_from(text, 0, 1, pool)
 }
 
-// Pushes the lines from a position on; the line that begins there has the number `first`. Each line before it has a byte, so that the number fits.
+// Pushes the lines from a position on; the line that begins there has the number `first`. Each line before it has a
+// byte, so that the number fits.
 fn push_from(text: &[u8], from: usize, first: usize, pool: &mut [u32]) -> Filled
     requires { ⌜ first ≤ from + 1 ⌝ }
-    ensures answer { λ r. ⌜ saidFilled r ≡ fillFrom first (now (pool .entry)) (linesOf (drop from (now (text .entry)))) ⌝ }
+    ensures answer { λ r.
+        ⌜ saidFilled r ≡ fillFrom first (now (pool .entry)) (linesOf (drop from (now (text .entry)))) ⌝ }
     ensures left { λ _. ⌜ now (pool .exit) ≡ leftFrom (now (pool .entry)) (linesOf (drop from (now (text .entry)))) ⌝ }
 {
     let mut at = from;

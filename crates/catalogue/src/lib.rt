@@ -12,7 +12,7 @@ ghost use Rattle.keymap.specs.Buffers.{over};
 ghost use Rattle.image.specs.Build.{buildLabels, buildValues, buildWords, buildScratch, ofLent};
 ghost use Rattle.catalogue.specs.Reading.{whatRead};
 ghost use Rattle.catalogue.specs.Program.{programText};
-ghost use Rattle.catalogue.specs.Rooms.{programPool, builtPool};
+ghost use Rattle.catalogue.specs.Rooms.{programPool, builtFrom};
 use crate::filling::Filled;
 use crate::filling::fill;
 use crate::listing::list_pool;
@@ -26,7 +26,8 @@ pub use sizes::IMAGE_WORDS;
 pub use sizes::OUT_ROOM;
 pub use sizes::POOL_WORDS;
 
-// Puts what the program writes of a file at the start of `out` and answers how many bytes that is. The file's bytes stand at the start of `text`.
+// Puts what the program writes of a file at the start of `out` and answers how many bytes that is. The file's bytes
+// stand at the start of `text`.
 pub fn answer(
     reading: Reading,
     text: &[u8; FILE_ROOM],
@@ -38,12 +39,17 @@ pub fn answer(
     out: &mut [u8; OUT_ROOM],
 ) -> usize
     ensures answer { λ r. ⌜ r ≡ length (programText (whatRead reading (now (text .entry)))) ⌝ }
-    ensures out { λ _. ⌜ now (out .exit) ≡ over (programText (whatRead reading (now (text .entry)))) (now (out .entry)) ⌝ }
+    ensures out { λ _.
+        ⌜ now (out .exit) ≡ over (programText (whatRead reading (now (text .entry)))) (now (out .entry)) ⌝ }
     ensures pool { λ _. ⌜ now (pool .exit) ≡ programPool (whatRead reading (now (text .entry))) (now (pool .entry)) ⌝ }
-    ensures labels { λ _. ⌜ now (labels .exit) ≡ ofLent (buildLabels (builtPool (whatRead reading (now (text .entry))) (now (pool .entry)))) labels values words scratch ⌝ }
-    ensures values { λ _. ⌜ now (values .exit) ≡ ofLent (buildValues (builtPool (whatRead reading (now (text .entry))) (now (pool .entry)))) labels values words scratch ⌝ }
-    ensures words { λ _. ⌜ now (words .exit) ≡ ofLent (buildWords (builtPool (whatRead reading (now (text .entry))) (now (pool .entry)))) labels values words scratch ⌝ }
-    ensures scratch { λ _. ⌜ now (scratch .exit) ≡ ofLent (buildScratch (builtPool (whatRead reading (now (text .entry))) (now (pool .entry)))) labels values words scratch ⌝ }
+    ensures labels { λ _.
+        ⌜ now (labels .exit) ≡ ofLent (buildLabels (builtFrom reading text pool)) labels values words scratch ⌝ }
+    ensures values { λ _.
+        ⌜ now (values .exit) ≡ ofLent (buildValues (builtFrom reading text pool)) labels values words scratch ⌝ }
+    ensures words { λ _.
+        ⌜ now (words .exit) ≡ ofLent (buildWords (builtFrom reading text pool)) labels values words scratch ⌝ }
+    ensures scratch { λ _.
+        ⌜ now (scratch .exit) ≡ ofLent (buildScratch (builtFrom reading text pool)) labels values words scratch ⌝ }
 {
     if !reading.whole {
         return put_text(b"no file\n", 0, out);

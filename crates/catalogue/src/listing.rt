@@ -32,10 +32,13 @@ pub fn list_pool(
     requires { ⌜ length (mapText (poolMap (now pool))) ≤ length (now out) ⌝ }
     ensures answer { λ r. ⌜ r ≡ length (mapText (poolMap (now (pool .entry)))) ⌝ }
     ensures out { λ _. ⌜ now (out .exit) ≡ over (mapText (poolMap (now (pool .entry)))) (now (out .entry)) ⌝ }
-    ensures labels { λ _. ⌜ now (labels .exit) ≡ ofLent (buildLabels (now (pool .entry))) labels values words scratch ⌝ }
-    ensures values { λ _. ⌜ now (values .exit) ≡ ofLent (buildValues (now (pool .entry))) labels values words scratch ⌝ }
+    ensures labels { λ _.
+        ⌜ now (labels .exit) ≡ ofLent (buildLabels (now (pool .entry))) labels values words scratch ⌝ }
+    ensures values { λ _.
+        ⌜ now (values .exit) ≡ ofLent (buildValues (now (pool .entry))) labels values words scratch ⌝ }
     ensures words { λ _. ⌜ now (words .exit) ≡ ofLent (buildWords (now (pool .entry))) labels values words scratch ⌝ }
-    ensures scratch { λ _. ⌜ now (scratch .exit) ≡ ofLent (buildScratch (now (pool .entry))) labels values words scratch ⌝ }
+    ensures scratch { λ _.
+        ⌜ now (scratch .exit) ≡ ofLent (buildScratch (now (pool .entry))) labels values words scratch ⌝ }
 {
     let Built::Nodes(n) = image::build(pool, labels, values, words, scratch) else {
         return 0;
@@ -49,12 +52,14 @@ pub fn list_pool(
     )
 }
 
-// Puts the listing of an image's map at the start of a buffer that holds it, each key straight behind the line before; answers its length.
+// Puts the listing of an image's map at the start of a buffer that holds it, each key straight behind the line before;
+// answers its length.
 fn list_image(labels: &[u16], values: &[u32], words: &[u64], out: &mut [u8]) -> usize
     requires { ⌜ MapImage (imageIn labels values words) ⌝ }
     requires { ⌜ length (mapText (imageMap (imageIn labels values words))) ≤ length (now out) ⌝ }
     ensures answer { λ r. ⌜ r ≡ length (mapText (imageMap (lentImage labels values words))) ⌝ }
-    ensures out { λ _. ⌜ now (out .exit) ≡ over (mapText (imageMap (lentImage labels values words))) (now (out .entry)) ⌝ }
+    ensures out { λ _.
+        ⌜ now (out .exit) ≡ over (mapText (imageMap (lentImage labels values words))) (now (out .entry)) ⌝ }
 {
     let Started::At(start) = predictive_search(labels, values, words, b"") else {
         return 0;

@@ -25,7 +25,8 @@ pub fn put_refused(number: u32, line: usize, out: &mut [u8]) -> usize
 pub fn put_value(value: u32, at: usize, out: &mut [u8]) -> usize
     requires { ⌜ at + length (tabText ([], value)) ≤ length (now out) ⌝ }
     ensures answer { λ r. ⌜ r ≡ at + length (tabText ([], value)) ⌝ }
-    ensures left { λ _. ⌜ now (out .exit) ≡ take at (now (out .entry)) ++ over (tabText ([], value)) (drop at (now (out .entry))) ⌝ }
+    ensures left { λ _.
+        ⌜ now (out .exit) ≡ take at (now (out .entry)) ++ over (tabText ([], value)) (drop at (now (out .entry))) ⌝ }
 {
     let tabbed = put_text(b"\t", at, out);
     let numbered = put_number(value as u64, tabbed, out);
@@ -36,7 +37,8 @@ pub fn put_value(value: u32, at: usize, out: &mut [u8]) -> usize
 fn put_number(number: u64, at: usize, out: &mut [u8]) -> usize
     requires { ⌜ at + length (decimal number) ≤ length (now out) ⌝ }
     ensures answer { λ r. ⌜ r ≡ at + length (decimal number) ⌝ }
-    ensures left { λ _. ⌜ now (out .exit) ≡ take at (now (out .entry)) ++ over (decimal number) (drop at (now (out .entry))) ⌝ }
+    ensures left { λ _.
+        ⌜ now (out .exit) ≡ take at (now (out .entry)) ++ over (decimal number) (drop at (now (out .entry))) ⌝ }
 {
     let mut digits = [0u8; 20];
     let count = io::decimal(number, &mut digits);
@@ -47,7 +49,8 @@ fn put_number(number: u64, at: usize, out: &mut [u8]) -> usize
 pub fn put_text(text: &[u8], at: usize, out: &mut [u8]) -> usize
     requires { ⌜ at + length (now text) ≤ length (now out) ⌝ }
     ensures answer { λ r. ⌜ r ≡ at + length (now (text .entry)) ⌝ }
-    ensures left { λ _. ⌜ now (out .exit) ≡ take at (now (out .entry)) ++ over (now (text .entry)) (drop at (now (out .entry))) ⌝ }
+    ensures left { λ _.
+        ⌜ now (out .exit) ≡ take at (now (out .entry)) ++ over (now (text .entry)) (drop at (now (out .entry))) ⌝ }
 {
     let mut i = 0;
     while i < text.len() {

@@ -1,5 +1,7 @@
-// A file read piece by piece into a room of one byte more than the longest that is taken. What each read tells is decided here:
-// a negative count is a read that failed, 0 is the file's end, and a room that is full is that of a file which is too long.
+// A file read piece by piece into a room of one byte more than the longest that is taken. What each read tells is
+// decided here:
+// a negative count is a read that failed, 0 is the file's end, and a room that is full is that of a file which is too
+// long.
 ghost use mathlib.Core.Path.{_≡_};
 ghost use Rattle.catalogue.specs.Reading.{nothingRead, nextAt, takeRead};
 use crate::sizes::FILE_ROOM;

@@ -1,5 +1,7 @@
-// What `catalogue::answer` says of the texts in `data/cases`, a line for each: where a line has `>` the text has TAB, `/` is LF, `A` is 2,048 letters a,
-// `F` is the line of key a and value 1 again and again, 65,536 bytes in all, and behind the text of a line with `!` a read fails.
+// What `catalogue::answer` says of the texts in `data/cases`, a line for each: where a line has `>` the text has TAB,
+// `/` is LF, `A` is 2,048 letters a,
+// `F` is the line of key a and value 1 again and again, 65,536 bytes in all, and behind the text of a line with `!` a
+// read fails.
 // The length of each answer is written, and the answer, of a long one its two ends.
 ghost use Prim.Native.Nat.{_≤_};
 ghost use lib.ListN.{length};

@@ -1,4 +1,5 @@
-// Reads `catalogue.tsv` and writes what `catalogue::answer` says of it. The rooms that the calls are lent are main's own.
+// Reads `catalogue.tsv` and writes what `catalogue::answer` says of it. The rooms that the calls are lent are main's
+// own.
 ghost use mathlib.Core.Path.{_≡_};
 ghost use lib.ListN.{length};
 ghost use Rattle.catalogue.specs.Reading.{fileRoom, Finished, whatRead};
@@ -15,7 +16,8 @@ use catalogue::reading::next_at;
 use catalogue::reading::take_read;
 use libc::STDOUT_FILENO;
 
-// Reads a file into the room until no read is wanted any more. One that cannot be opened has no descriptor, and the read of none fails.
+// Reads a file into the room until no read is wanted any more. One that cannot be opened has no descriptor, and the
+// read of none fails.
 fn read_file(name: &[u8], room: &mut [u8]) -> Reading
     requires { ⌜ length (now room) ≡ fileRoom ⌝ }
     ensures { λ r. ⌜ Finished r ⌝ }
@@ -31,7 +33,8 @@ fn read_file(name: &[u8], room: &mut [u8]) -> Reading
     reading
 }
 
-// Writes what is to be written of a file that was read. The reading and its room are there for the contract: no other bytes are handed over.
+// Writes what is to be written of a file that was read. The reading and its room are there for the contract: no other
+// bytes are handed over.
 fn say(reading: Reading, text: &[u8], told: &[u8])
     requires { ⌜ Finished reading ⌝ }
     requires { ⌜ now told ≡ programText (whatRead reading (now text)) ⌝ }

@@ -1,4 +1,5 @@
--- Whether a node is a top or below it, on any bits: it or one of the nodes on the way up from it is the top. Numbers fall on the way up,
+-- Whether a node is a top or below it, on any bits: it or one of the nodes on the way up from it is the top. Numbers
+-- fall on the way up,
 -- so the climb ends at the first that is not above the top's.
 -- Assumes nothing.
 use Prim.Native.Nat.{ℕ, zero, suc}

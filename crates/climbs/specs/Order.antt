@@ -1,4 +1,5 @@
--- From node to node in byte order of their paths, on any bits, by numbers. "`PostfixIter`'s stack becomes child, next sibling, or climb" (01):
+-- From node to node in byte order of their paths, on any bits, by numbers. "`PostfixIter`'s stack becomes child, next
+-- sibling, or climb" (01):
 -- a node comes before the nodes below it, and these before its next sibling.
 -- b are the bits, of which the first len are read; the nodes are numbered from 1 to last.
 --
@@ -57,7 +58,8 @@ besideBy b len last k = besideOf b len last k (oneAt b len k)
 unfoldable pub climbedFrom : (ℕ → ℕ) → ℕ → ℕ → ℕ → ℕ → Option ℕ → Option ℕ
 climbedFrom b len last top zero at = none
 climbedFrom b len last top (suc left) none = none
-climbedFrom b len last top (suc left) (some k) = cond (eqb k top) none (orElse (besideBy b len last k) (climbedFrom b len last top left (parentBy b len k)))
+climbedFrom b len last top (suc left) (some k) =
+    cond (eqb k top) none (orElse (besideBy b len last k) (climbedFrom b len last top left (parentBy b len k)))
 
 -- a parent's number is below its child's, so the node's own bounds the climb
 unfoldable pub climbBy : (ℕ → ℕ) → ℕ → ℕ → ℕ → ℕ → Option ℕ
@@ -74,7 +76,8 @@ withValue k (some v) = some (k, v)
 unfoldable pub soughtFrom : List ℕ → List ℕ → (ℕ → ℕ) → ℕ → ℕ → ℕ → Option ℕ → Option (ℕ × ℕ)
 soughtFrom ls vs b len top zero at = none
 soughtFrom ls vs b len top (suc left) none = none
-soughtFrom ls vs b len top (suc left) (some k) = orElse (withValue k (valueOfNode ls vs k)) (soughtFrom ls vs b len top left (advanceBy b len (length ls + 1) top k))
+soughtFrom ls vs b len top (suc left) (some k) =
+    orElse (withValue k (valueOfNode ls vs k)) (soughtFrom ls vs b len top left (advanceBy b len (length ls + 1) top k))
 
 -- there are n+1 nodes, so as many steps lead past all of them
 unfoldable pub nextBy : List ℕ → List ℕ → (ℕ → ℕ) → ℕ → ℕ → ℕ → Option (ℕ × ℕ)

@@ -1,4 +1,5 @@
--- Going up, on any bits. "The parent of node m has as its number the count of zeros before the m-th one" (01); it counts only if that number is from 1 to m-1,
+-- Going up, on any bits. "The parent of node m has as its number the count of zeros before the m-th one" (01); it
+-- counts only if that number is from 1 to m-1,
 -- which an accepted image has of every node of 2 or more, so a climb ends on any bits.
 --
 --     parentBy      the rule: the parent of a node
@@ -46,7 +47,8 @@ hasParent len m p = ltb p len && (leb 1 m && (leb m p && ltb (p - (m - 1)) m))
 unfoldable pub parentFrom : (ℕ → ℕ) → ℕ → Perch → Rise
 parentFrom b len at =
     let up = at .one - (at .node - 1) in
-    cond (hasParent len (at .node) (at .one)) (Parent (record { node = up; one = orEnd (at .one) (oneBack b (at .one) (at .node - up)) })) NoParent
+    cond (hasParent len (at .node) (at .one))
+    (Parent (record { node = up; one = orEnd (at .one) (oneBack b (at .one) (at .node - up)) })) NoParent
 
 abbrev pub riseAt : (ℕ → ℕ) → ℕ → Option ℕ → Rise
 riseAt b len none = NoParent

@@ -23,12 +23,14 @@ use Rattle.climbs.specs.declared.answers.Spelled.the-variants as spelled
 unfoldable pub hasEntry : ℕ → ℕ → Bool
 hasEntry n m = leb 2 m && leb m (n + 1)
 
--- from where a climb is, with so many places left at the front of the buffer; it ends at a node that has no entry, and where there is no parent
+-- from where a climb is, with so many places left at the front of the buffer; it ends at a node that has no entry, and
+-- where there is no parent
 unfoldable pub spelledFrom : List ℕ → (ℕ → ℕ) → ℕ → ℕ → Option ℕ → List ℕ → List ℕ
 spelledFrom ls b len zero at out = out
 spelledFrom ls b len (suc left) none out = out
 spelledFrom ls b len (suc left) (some k) out =
-    cond (hasEntry (length ls) k) (spelledFrom ls b len left (parentBy b len k) (set out left (labelIn (getD ls (k - 2) 0)))) out
+    cond (hasEntry (length ls) k)
+    (spelledFrom ls b len left (parentBy b len k) (set out left (labelIn (getD ls (k - 2) 0)))) out
 
 -- a buffer shorter than what is to be written stays as it is
 unfoldable pub spelledBy : List ℕ → (ℕ → ℕ) → ℕ → ℕ → ℕ → List ℕ → List ℕ

@@ -6,7 +6,8 @@ use crate::perches::Rise;
 use crate::perches::parent_of;
 use crate::perches::perch_at;
 
-// Whether a node is the top or below it: ancestors have lower numbers, so the climb ends at the first that is not above the top's.
+// Whether a node is the top or below it: ancestors have lower numbers, so the climb ends at the first that is not above
+// the top's.
 pub fn is_below(words: &[u64], len: usize, top: usize, node: usize) -> bool
     ensures { λ r. ⌜ r ≡ belowBy (bit (now (words .entry))) len top node ⌝ }
 {

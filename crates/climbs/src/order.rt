@@ -1,6 +1,9 @@
-// Going from node to node in byte order of their paths, below a top: to the first child, to the next sibling, or up to the parent.
-// `src/iter/postfix_iter.rs` keeps a stack of siblings; here the numbers tell where to go on. `last` is the number of the last node, n+1.
-// A perch carries the place of its node's one. A parent's one lies before it and a child's behind it, so a climb goes over the bits once, and so does a descent;
+// Going from node to node in byte order of their paths, below a top: to the first child, to the next sibling, or up to
+// the parent.
+// `src/iter/postfix_iter.rs` keeps a stack of siblings; here the numbers tell where to go on. `last` is the number of
+// the last node, n+1.
+// A perch carries the place of its node's one. A parent's one lies before it and a child's behind it, so a climb goes
+// over the bits once, and so does a descent;
 // only `perch_at`, with which a walk begins, looks from bit 0 on.
 ghost use mathlib.Core.Path.{_≡_};
 ghost use Rattle.keymap.specs.Bits.{bit};
@@ -40,7 +43,8 @@ fn one_behind(words: &[u64], len: usize, place: usize) -> bool
     bit_at(words, place + 1) == 1
 }
 
-// Whether a node whose one is at a place may have a child that counts: fewer zeros than its number stand before its one.
+// Whether a node whose one is at a place may have a child that counts: fewer zeros than its number stand before its
+// one.
 fn leads_down(len: usize, node: usize, one: usize) -> bool
     ensures { λ r. ⌜ r ≡ leads len node one ⌝ }
 {
@@ -97,7 +101,8 @@ fn beside(words: &[u64], len: usize, last: usize, at: Perch) -> Moved
     })
 }
 
-// The next node behind a node that has no child: the next sibling of the nearest of the node and its ancestors that has one. At the top the climb ends.
+// The next node behind a node that has no child: the next sibling of the nearest of the node and its ancestors that has
+// one. At the top the climb ends.
 fn climb(words: &[u64], len: usize, last: usize, top: usize, from: Perch) -> Moved
     ensures { λ r. ⌜ r ≡ climbFrom (bit (now (words .entry))) len last top from ⌝ }
 {
@@ -125,7 +130,8 @@ fn advance(words: &[u64], len: usize, last: usize, top: usize, at: Perch) -> Mov
     }
 }
 
-// The next node below a top that has a value: on an image that some map has, the least key above the node's path, of those that begin with the top's.
+// The next node below a top that has a value: on an image that some map has, the least key above the node's path, of
+// those that begin with the top's.
 // There are n+1 nodes, so after as many steps nothing is left.
 pub fn next_valued(
     labels: &[u16],

@@ -1,5 +1,7 @@
-// Perches and their parents, in the first `len` bits. A perch carries the place of its node's one, and a parent's one lies before it:
-// only `perch_at`, with which a climb begins, looks from bit 0 on. A climb goes up as long as the parent's number is from 1 to the node's less 1, so it ends on any bits.
+// Perches and their parents, in the first `len` bits. A perch carries the place of its node's one, and a parent's one
+// lies before it:
+// only `perch_at`, with which a climb begins, looks from bit 0 on. A climb goes up as long as the parent's number is
+// from 1 to the node's less 1, so it ends on any bits.
 ghost use mathlib.Core.Path.{_≡_};
 ghost use Rattle.keymap.specs.Bits.{bit};
 ghost use Rattle.climbs.specs.Perches.{perchAt, hasParent, parentFrom, depthBy};

@@ -1,4 +1,5 @@
-// The labels on the way up from a node, written to a buffer from the last to the first. The climb begins with one look from bit 0 on,
+// The labels on the way up from a node, written to a buffer from the last to the first. The climb begins with one look
+// from bit 0 on,
 // and then goes over the bits once, since each perch knows where its one is.
 ghost use mathlib.Core.Path.{_≡_};
 ghost use lib.ListN.{length};
@@ -26,7 +27,8 @@ fn has_entry(labels: &[u16], node: usize) -> bool
     node <= labels.len() + 1
 }
 
-// Writes the last `count` labels on the way down to a node to the front of a buffer; the bytes past them stay, and a buffer that is shorter stays whole.
+// Writes the last `count` labels on the way down to a node to the front of a buffer; the bytes past them stay, and a
+// buffer that is shorter stays whole.
 // The climb ends early at a node that has no entry or no parent.
 pub fn spell(labels: &[u16], words: &[u64], len: usize, node: usize, count: usize, out: &mut [u8])
     ensures { λ _.

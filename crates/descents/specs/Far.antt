@@ -64,7 +64,8 @@ pub record HasZero (ws : List ℕ) (first w : ℕ) : Type 0 where
 abbrev pub ZeroWord : List ℕ → ℕ → ℕ → ℕ → Type 0
 ZeroWord ws whole first w = w < whole → HasZero ws first w
 
--- a node, and the place of the zero that is the `left`-th from the start of word kept-1 on, or of word 0 where `kept` is 0
+-- a node, and the place of the zero that is the `left`-th from the start of word kept-1 on, or of word 0 where `kept`
+-- is 0
 abbrev pub standNear : (ℕ → ℕ) → ℕ → ℕ → ℕ → ℕ → Stand
 standNear b len node kept left = record { node = node; zero = orEnd len (zeroFrom b len ((kept - 1) * wordBits) left) }
 

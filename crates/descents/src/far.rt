@@ -1,5 +1,7 @@
-// Going down along a query by those words of the bits that lie inside as a whole: a walk keeps the word that has its node's zero, with the zeros up to the end
-// of each of its bytes, and goes on from there. Where a zero stands in none of these words it stops, and `queries::go_on` takes the other steps from the word kept on.
+// Going down along a query by those words of the bits that lie inside as a whole: a walk keeps the word that has its
+// node's zero, with the zeros up to the end
+// of each of its bytes, and goes on from there. Where a zero stands in none of these words it stops, and
+// `queries::go_on` takes the other steps from the word kept on.
 ghost use mathlib.Core.Path.{_≡_};
 ghost use Rattle.keymap.specs.Bits.{bit};
 ghost use Rattle.walks.specs.Rule.{walked};
@@ -18,7 +20,8 @@ use walks::siblings::smaller;
 use walks::stands::Stand;
 use walks::stands::or_end;
 
-// Where more zeros are to be passed, four words are counted at once. Any number would be right; with others more instructions were taken.
+// Where more zeros are to be passed, four words are counted at once. Any number would be right; with others more
+// instructions were taken.
 const FAR: usize = 110;
 
 // Every bit of a word.
@@ -30,7 +33,8 @@ pub struct Passed {
     pub left: usize,
 }
 
-// The words up to the one kept and with it, the zeros from its start on to the node's, all its zeros, and those up to the end of each of its bytes.
+// The words up to the one kept and with it, the zeros from its start on to the node's, all its zeros, and those up to
+// the end of each of its bytes.
 pub struct Kept {
     pub words: usize,
     pub left: usize,

@@ -14,7 +14,8 @@ use walks::moves::Reached;
 use walks::moves::down;
 use walks::stands::Stand;
 
-// Where a walk ended: at a node whose zero was not looked for yet, as whole words leave it (`far::Went`), at a stand, or nowhere.
+// Where a walk ended: at a node whose zero was not looked for yet, as whole words leave it (`far::Went`), at a stand,
+// or nowhere.
 enum Ended {
     Near {
         node: usize,
@@ -111,7 +112,8 @@ pub fn walk(labels: &[u16], words: &[u64], len: usize, query: &[u8]) -> Reached
         ⌝ }
 {
     match reach_end(labels, words, len, query) {
-        // with no step left `go_on` looks for the zero alone; called from here too it is not compiled into `reach_end`, which is the shorter for it
+        // with no step left `go_on` looks for the zero alone; called from here too it is not compiled into `reach_end`,
+        // which is the shorter for it
         Ended::Near { node, kept, left } => go_on(
             labels,
             words,

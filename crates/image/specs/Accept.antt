@@ -1,4 +1,5 @@
--- When a lent image is accepted (01, "The image"): "An image is accepted exactly if some map with nonempty keys has it. Equivalently, to be proved: ..".
+-- When a lent image is accepted (01, "The image"): "An image is accepted exactly if some map with nonempty keys has it.
+-- Equivalently, to be proved: ..".
 -- `Accepted` is the list that follows there, a field for each condition and the condition's words over it.
 --
 --     entries       n: "The number n is the length of the label slice"
@@ -69,7 +70,8 @@ pub record Accepted (i : Image) : Type 0 where
   -- "every node m of 2 or more has its parent's number from 1 to m-1"
   pub parents : (m : ℕ) → 2 ≤ m → m ≤ entries i + 1 → ParentBelow i m
   -- "sibling labels strictly rise"
-  pub rise : (l m : ℕ) → 2 ≤ l → l < m → m ≤ entries i + 1 → parentIn i l ≡ parentIn i m → labelIn (nodeEntry i l) < labelIn (nodeEntry i m)
+  pub rise : (l m : ℕ) → 2 ≤ l → l < m → m ≤ entries i + 1 → parentIn i l ≡ parentIn i m
+      → labelIn (nodeEntry i l) < labelIn (nodeEntry i m)
   -- "entries are below 512"
   pub small : (m : ℕ) → 2 ≤ m → m ≤ entries i + 1 → nodeEntry i m < 2 * mark
   -- "unmarked entries have value 0 and a child"

@@ -1,4 +1,5 @@
--- What `accept` answers, in 01's numbers: refusal 6 "exactly when .. lent image is no map's image", else 0; and how every search begins.
+-- What `accept` answers, in 01's numbers: refusal 6 "exactly when .. lent image is no map's image", else 0; and how
+-- every search begins.
 -- Assumes nothing.
 use Prim.Native.Nat.{ℕ}
 use mathlib.Core.Bool.{cond}

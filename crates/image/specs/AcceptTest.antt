@@ -1,5 +1,7 @@
--- The image test: lengths, unused bits and the first two bits, then one pass over the other bits with the ones so far and the bit before.
--- A one is the node one above the ones before it, and its parent is the count of zeros before it; a one right after a one is its next sibling;
+-- The image test: lengths, unused bits and the first two bits, then one pass over the other bits with the ones so far
+-- and the bit before.
+-- A one is the node one above the ones before it, and its parent is the count of zeros before it; a one right after a
+-- one is its next sibling;
 -- and a zero right after a zero closes a node that has no child, which is the count of zeros before it.
 --
 --     entryFits       an entry below 512, with value 0 if unmarked
@@ -31,14 +33,17 @@ labelsRise ls e = ltb (labelIn (getD ls e 0)) (labelIn (getD ls (e + 1) 0))
 unfoldable pub oneFits : List ℕ → List ℕ → ℕ → ℕ → ℕ → Bool
 oneFits ls vs before ones zeros =
     leb zeros ones
-    && (leb ones (length ls) && (entryFits (getD ls (ones - 1) 0) (getD vs (ones - 1) 0) && cond (eqb before 0) true (labelsRise ls (ones - 2))))
+    && (leb ones (length ls)
+    && (entryFits (getD ls (ones - 1) 0) (getD vs (ones - 1) 0)
+    && cond (eqb before 0) true (labelsRise ls (ones - 2))))
 
 -- node m may be without child: it is the root, or it is marked
 unfoldable pub childlessFits : List ℕ → ℕ → Bool
 childlessFits ls m = cond (ltb m 2) true (leb mark (getD ls (m - 2) 0))
 
 unfoldable pub bitFits : List ℕ → List ℕ → ℕ → ℕ → ℕ → ℕ → Bool
-bitFits ls vs b before ones zeros = cond (eqb b 0) (cond (eqb before 0) (childlessFits ls zeros) true) (oneFits ls vs before ones zeros)
+bitFits ls vs b before ones zeros =
+    cond (eqb b 0) (cond (eqb before 0) (childlessFits ls zeros) true) (oneFits ls vs before ones zeros)
 
 -- the first argument is how many bits are left from place p on
 unfoldable pub passesFrom : Image → ℕ → ℕ → ℕ → ℕ → Bool
@@ -48,11 +53,15 @@ passesFrom i (suc left) p ones before =
     && passesFrom i left (suc p) (ones + bit (i .words) p) (bit (i .words) p)
 
 unfoldable pub lengthsFit : Image → Bool
-lengthsFit i = leb (entries i) mostRecords && (eqb (length (i .values)) (entries i) && eqb (length (i .words)) (wordsFor (bitsFor (entries i))))
+lengthsFit i =
+    leb (entries i) mostRecords
+    && (eqb (length (i .values)) (entries i) && eqb (length (i .words)) (wordsFor (bitsFor (entries i))))
 
 -- the last word has nothing above the bits of the sequence, and the sequence begins with 1, 0
 unfoldable pub endsFit : Image → Bool
-endsFit i = eqb (getD (i .words) (bitsFor (entries i) / wordBits) 0 / 2 ^ (bitsFor (entries i) % wordBits)) 0 && eqb (getD (i .words) 0 0 % 4) 1
+endsFit i =
+    eqb (getD (i .words) (bitsFor (entries i) / wordBits) 0 / 2 ^ (bitsFor (entries i) % wordBits)) 0
+    && eqb (getD (i .words) 0 0 % 4) 1
 
 unfoldable pub imageTest : Image → Bool
 imageTest i = lengthsFit i && (endsFit i && passesFrom i (2 * entries i + 1) 2 1 0)

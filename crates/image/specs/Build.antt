@@ -33,16 +33,19 @@ saidBuilt Built.OutTooSmall = refuses Refusal.OutTooSmall
 
 -- n nodes besides the root, and the lengths of the label entries, values, words and scratch
 unfoldable pub buffersFit : (n labels values words scratch : ℕ) → Bool
-buffersFit n labels values words scratch = leb n labels && (leb n values && (leb (wordsFor (bitsFor n)) words && leb n scratch))
+buffersFit n labels values words scratch =
+    leb n labels && (leb n values && (leb (wordsFor (bitsFor n)) words && leb n scratch))
 
 -- n nodes where the buffers fit, and OutTooSmall where they do not
 unfoldable pub fitSays : (n labels values words scratch : ℕ) → List ℕ
-fitSays n labels values words scratch = cond (buffersFit n labels values words scratch) (0 ∷ n ∷ []) (refuses Refusal.OutTooSmall)
+fitSays n labels values words scratch =
+    cond (buffersFit n labels values words scratch) (0 ∷ n ∷ []) (refuses Refusal.OutTooSmall)
 
 unfoldable pub buildSays : Pool → (labels values words scratch : List ℕ) → List ℕ
 buildSays p ls vs ws qs =
     cond (ltb (length p) recordWords) (refuses Refusal.PoolTooSmall)
-    (cond (soundTest p) (fitSays (usedCount p) (length ls) (length vs) (length ws) (length qs)) (refuses Refusal.NotAPool))
+    (cond (soundTest p) (fitSays (usedCount p) (length ls) (length vs) (length ws) (length qs))
+    (refuses Refusal.NotAPool))
 
 unfoldable pub buildLabels : Pool → (labels values words scratch : List ℕ) → List ℕ
 buildLabels p ls vs ws qs = cond (accepted (buildSays p ls vs ws qs)) (over (poolLabels p) ls) ls

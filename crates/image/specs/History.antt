@@ -1,4 +1,5 @@
--- Any list of calls on one pool, builds with any buffers among them: what each answers, by the pool's words and by the map of the keys that were accepted since the last reset.
+-- Any list of calls on one pool, builds with any buffers among them: what each answers, by the pool's words and by the
+-- map of the keys that were accepted since the last reset.
 -- A build leaves the pool as it was, so the pool and the map afterwards are those of the other calls.
 --
 --     Call               a call on the pool alone, or a build

@@ -1,4 +1,5 @@
--- The records of a pool in level order, by a queue: the children of the root, then the children of each of these in turn (01, "in breadth-first order").
+-- The records of a pool in level order, by a queue: the children of the root, then the children of each of these in
+-- turn (01, "in breadth-first order").
 --
 --     childRecords     the children of a record, along their chain
 --     levelRecords     the records in use in level order: node j + 2 is the record at index j

@@ -18,8 +18,10 @@ asImage ls vs ws = record { labels = ls; values = vs; words = ws }
 abbrev pub imageIn : RefT (List ℕ) → RefT (List ℕ) → RefT (List ℕ) → Image
 imageIn labels values words = asImage (now labels) (now values) (now words)
 
--- what a contract calls the image: the one that its parameters labels, values and words held at entry, whatever is left of them at exit
-abbrev pub lentImage : {X Y Z : Type 0} → Both (RefT (List ℕ)) X → Both (RefT (List ℕ)) Y → Both (RefT (List ℕ)) Z → Image
+-- what a contract calls the image: the one that its parameters labels, values and words held at entry, whatever is left
+-- of them at exit
+abbrev pub lentImage : {X Y Z : Type 0} → Both (RefT (List ℕ)) X → Both (RefT (List ℕ)) Y
+    → Both (RefT (List ℕ)) Z → Image
 lentImage labels values words = imageIn (labels .entry) (values .entry) (words .entry)
 
 -- i is the image of the catalogue that it stands for, with at most as many nodes as there may be

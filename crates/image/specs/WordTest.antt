@@ -1,4 +1,5 @@
--- The pass of the image test (`AcceptTest.passesFrom`) by entries and words: once the ones are counted and the entries fit, it asks this of each word.
+-- The pass of the image test (`AcceptTest.passesFrom`) by entries and words: once the ones are counted and the entries
+-- fit, it asks this of each word.
 -- A word x stands behind `at` bits, `before` of them ones, and `prev` has at each place the bit before it.
 --
 --     allBelow        each number below n passes a test
@@ -41,9 +42,11 @@ unfoldable pub parentAt : ℕ → ℕ → ℕ → ℕ → Bool
 parentAt x at before t = cond (eqb (digit x t) 0) true (leb (at + t) (2 * (before + ones (x % 2 ^ t))))
 
 unfoldable pub siblingAt : List ℕ → ℕ → ℕ → ℕ → ℕ → Bool
-siblingAt ls x prev before t = cond (eqb (digit (bitAnd x prev) t) 0) true (labelsRise ls (before + ones (x % 2 ^ t) - 2))
+siblingAt ls x prev before t =
+    cond (eqb (digit (bitAnd x prev) t) 0) true (labelsRise ls (before + ones (x % 2 ^ t) - 2))
 
--- z has a one for each zero, `before` counts the zeros before the word, and `lone` has the places whose bit before is a zero
+-- z has a one for each zero, `before` counts the zeros before the word, and `lone` has the places whose bit before is a
+-- zero
 unfoldable pub leafAt : List ℕ → ℕ → ℕ → ℕ → ℕ → Bool
 leafAt ls z lone before t = cond (eqb (digit (bitAnd z lone) t) 0) true (childlessFits ls (before + ones (z % 2 ^ t)))
 
@@ -60,7 +63,8 @@ prevOf x last = bitOr (x * 2 ^ 1 % 2 ^ wordBits) (last / 2 ^ 63)
 unfoldable pub wordFits : List ℕ → ℕ → ℕ → ℕ → ℕ → ℕ → Bool
 wordFits ls x last at before left =
     allBelow (parentAt x at before) wordBits
-    && (allBelow (siblingAt ls x (prevOf x last) before) wordBits && allBelow (leafAt ls (zerosOf x left) (complement (prevOf x last)) (at - before)) wordBits)
+    && (allBelow (siblingAt ls x (prevOf x last) before) wordBits
+    && allBelow (leafAt ls (zerosOf x left) (complement (prevOf x last)) (at - before)) wordBits)
 
 -- the word before word w
 unfoldable pub lastBefore : List ℕ → ℕ → ℕ
@@ -68,7 +72,9 @@ lastBefore ws zero = 0
 lastBefore ws (suc w) = getD ws w 0
 
 unfoldable pub wordAt : List ℕ → List ℕ → ℕ → Bool
-wordAt ls ws w = wordFits ls (getD ws w 0) (lastBefore ws w) (w * wordBits) (onesBefore (bit ws) (w * wordBits)) (bitsFor (length ls) - w * wordBits)
+wordAt ls ws w =
+    wordFits ls (getD ws w 0) (lastBefore ws w) (w * wordBits) (onesBefore (bit ws) (w * wordBits))
+    (bitsFor (length ls) - w * wordBits)
 
 -- ---- what the code may rely on
 
@@ -86,7 +92,9 @@ pub record Counted (ls ws : List ℕ) : Type 0 where
 
 -- siblings of one word have their entries among n
 abbrev pub SiblingsInside : ℕ → ℕ → ℕ → ℕ → Type 0
-SiblingsInside n x prev before = (t : ℕ) → t < wordBits → digit (bitAnd x prev) t ≡ 1 → (2 ≤ before + ones (x % 2 ^ t)) × (before + ones (x % 2 ^ t) ≤ n)
+SiblingsInside n x prev before =
+    (t : ℕ) → t < wordBits → digit (bitAnd x prev) t ≡ 1
+    → (2 ≤ before + ones (x % 2 ^ t)) × (before + ones (x % 2 ^ t) ≤ n)
 
 -- and the nodes that its zeros close
 abbrev pub LeavesInside : ℕ → ℕ → ℕ → Type 0

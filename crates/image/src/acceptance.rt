@@ -1,4 +1,5 @@
-// The image test: are these slices the image of some map? One pass over the entries and two over the words, linear in n, with no memory of its own;
+// The image test: are these slices the image of some map? One pass over the entries and two over the words, linear in
+// n, with no memory of its own;
 // it ends on any words.
 use crate::buffers::words_for;
 use crate::entries::MARK;
@@ -26,7 +27,8 @@ fn unmarked_value(entry: u16, value: u32) -> u32
     if entry < MARK { value } else { 0 }
 }
 
-// Every entry is below 512, and every unmarked one has value 0. All are gathered, so that no branch is taken on any of them.
+// Every entry is below 512, and every unmarked one has value 0. All are gathered, so that no branch is taken on any of
+// them.
 fn entries_fit(labels: &[u16], values: &[u32]) -> bool
     requires { ⌜ length (now values) ≡ length (now labels) ⌝ }
     ensures { λ r. ⌜ r ≡ entriesFit (now (labels .entry)) (now (values .entry)) ⌝ }

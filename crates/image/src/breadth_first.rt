@@ -1,5 +1,7 @@
-// The nodes in breadth-first order, with a queue that is the scratch slice itself: what has been taken from it stays, so that it ends as the level order.
-// After `src/internal_data_structure/naive_trie/naive_trie_b_f_iter.rs` and `src/map/trie_builder.rs`: the bits are set as the nodes are taken.
+// The nodes in breadth-first order, with a queue that is the scratch slice itself: what has been taken from it stays,
+// so that it ends as the level order.
+// After `src/internal_data_structure/naive_trie/naive_trie_b_f_iter.rs` and `src/map/trie_builder.rs`: the bits are set
+// as the nodes are taken.
 use crate::buffers::words_for;
 use louds::put_one;
 use records::words::first_child;
@@ -37,7 +39,8 @@ fn record_at(queue: &[u32], k: usize) -> u32
     queue[k - 1]
 }
 
-// Puts the children of record c into the queue, from entry `tail` on, and a one for each into the bits, from place `at` on. How many they are.
+// Puts the children of record c into the queue, from entry `tail` on, and a one for each into the bits, from place `at`
+// on. How many they are.
 fn queue_children(
     pool: &[u32],
     c: u32,
@@ -48,7 +51,8 @@ fn queue_children(
 ) -> usize
     requires { ⌜ CanQueue (now pool) c at (now queue) tail ⌝ }
     ensures count { λ r. ⌜ r ≡ length (childRecords (now (pool .entry)) c) ⌝ }
-    ensures ones { λ _. ⌜ now (words .exit) ≡ withRun (now (words .entry)) at (length (childRecords (now (pool .entry)) c)) ⌝ }
+    ensures ones { λ _.
+        ⌜ now (words .exit) ≡ withRun (now (words .entry)) at (length (childRecords (now (pool .entry)) c)) ⌝ }
     ensures queued { λ _. ⌜ now (queue .exit) ≡ sets (now (queue .entry)) tail (childRecords (now (pool .entry)) c) ⌝ }
 {
     let mut d = 0;

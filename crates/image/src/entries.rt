@@ -14,8 +14,16 @@ pub const MARK: u16 = records::words::MARK as u16;
 // Writes the first n records of a list, each with its label entry and its value.
 pub fn write_entries(pool: &[u32], order: &[u32], n: u32, labels: &mut [u16], values: &mut [u32])
     requires { ⌜ CanTell (now pool) (now order) n (now labels) (now values) ⌝ }
-    ensures labels { λ _. ⌜ now (labels .exit) ≡ over (map (entry (now (pool .entry))) (take n (now (order .entry)))) (now (labels .entry)) ⌝ }
-    ensures values { λ _. ⌜ now (values .exit) ≡ over (map (value (now (pool .entry))) (take n (now (order .entry)))) (now (values .entry)) ⌝ }
+    ensures labels { λ _.
+        ⌜
+        now (labels .exit)
+        ≡ over (map (entry (now (pool .entry))) (take n (now (order .entry)))) (now (labels .entry))
+        ⌝ }
+    ensures values { λ _.
+        ⌜
+        now (values .exit)
+        ≡ over (map (value (now (pool .entry))) (take n (now (order .entry)))) (now (values .entry))
+        ⌝ }
 {
     let nodes = n as usize;
     let mut j: usize = 0;

@@ -24,7 +24,8 @@ ghost use mathlib.Core.List.{[], _∷_};
 ghost use Rattle.image.specs.Accept.{OfMap};
 ghost use Rattle.image.specs.Meaning.{lentImage};
 ghost use Rattle.image.specs.AcceptAnswer.{saidChecked, acceptSays};
-ghost use Rattle.image.specs.Build.{saidBuilt, buildSays, buildLabels, buildValues, buildWords, buildScratch, ofLent};
+ghost use Rattle.image.specs.Build.{saidBuilt, buildSays, buildLabels, buildValues, buildWords, buildScratch};
+ghost use Rattle.image.specs.Build.{ofLent};
 
 // Refuses slices that are no map's image. It only reads.
 pub fn accept(labels: &[u16], values: &[u32], words: &[u64]) -> Checked
@@ -37,7 +38,8 @@ pub fn accept(labels: &[u16], values: &[u32], words: &[u64]) -> Checked
     Checked::Accepted
 }
 
-// Writes the image of the pool's map, and the level order of its records to the scratch slice. The pool is only read, longer buffers keep their tails.
+// Writes the image of the pool's map, and the level order of its records to the scratch slice. The pool is only read,
+// longer buffers keep their tails.
 pub fn build(
     pool: &[u32],
     labels: &mut [u16],
@@ -46,10 +48,13 @@ pub fn build(
     scratch: &mut [u32],
 ) -> Built
     ensures answer { λ r. ⌜ saidBuilt r ≡ ofLent (buildSays (now (pool .entry))) labels values words scratch ⌝ }
-    ensures labels { λ _. ⌜ now (labels .exit) ≡ ofLent (buildLabels (now (pool .entry))) labels values words scratch ⌝ }
-    ensures values { λ _. ⌜ now (values .exit) ≡ ofLent (buildValues (now (pool .entry))) labels values words scratch ⌝ }
+    ensures labels { λ _.
+        ⌜ now (labels .exit) ≡ ofLent (buildLabels (now (pool .entry))) labels values words scratch ⌝ }
+    ensures values { λ _.
+        ⌜ now (values .exit) ≡ ofLent (buildValues (now (pool .entry))) labels values words scratch ⌝ }
     ensures words { λ _. ⌜ now (words .exit) ≡ ofLent (buildWords (now (pool .entry))) labels values words scratch ⌝ }
-    ensures scratch { λ _. ⌜ now (scratch .exit) ≡ ofLent (buildScratch (now (pool .entry))) labels values words scratch ⌝ }
+    ensures scratch { λ _.
+        ⌜ now (scratch .exit) ≡ ofLent (buildScratch (now (pool .entry))) labels values words scratch ⌝ }
 {
     if pool.len() < RECORD_WORDS {
         return Built::PoolTooSmall;

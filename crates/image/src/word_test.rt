@@ -1,5 +1,7 @@
-// The bits of an image, word by word. Node m is the m-th one, and its parent is the count of zeros before it. A one right after a one is the next
-// sibling of the node before, and a zero right after a zero closes a node without child. Most places of a word are neither, and are passed at once.
+// The bits of an image, word by word. Node m is the m-th one, and its parent is the count of zeros before it. A one
+// right after a one is the next
+// sibling of the node before, and a zero right after a zero closes a node without child. Most places of a word are
+// neither, and are passed at once.
 use crate::entries::MARK;
 use louds::WORD_BITS;
 use louds::lowest_one;
@@ -10,9 +12,11 @@ ghost use lib.ListN.{length};
 ghost use Rattle.keymap.specs.Limits.{wordBits, mostRecords};
 ghost use Rattle.louds.specs.Digits.{above};
 ghost use Rattle.image.specs.AcceptTest.{labelsRise};
-ghost use Rattle.image.specs.WordTest.{allBelow, parentAt, siblingAt, leafAt, wordFits, wordAt, SiblingsInside, LeavesInside, WordInside, Counted};
+ghost use Rattle.image.specs.WordTest.{allBelow, parentAt, siblingAt, leafAt, wordFits, wordAt, SiblingsInside};
+ghost use Rattle.image.specs.WordTest.{LeavesInside, WordInside, Counted};
 
-// At most as many zeros as ones stand before each one of the word. Where the ones before the word are no fewer than the zeros up to its end, that holds of all.
+// At most as many zeros as ones stand before each one of the word. Where the ones before the word are no fewer than the
+// zeros up to its end, that holds of all.
 fn parents_fit(x: u64, at: usize, before: usize) -> bool
     requires { ⌜ at + before ≤ 4 * mostRecords ⌝ }
     ensures { λ r. ⌜ r ≡ allBelow (parentAt x at before) wordBits ⌝ }
@@ -104,7 +108,8 @@ fn leaves_fit(labels: &[u16], zeros: u64, lone: u64, before: usize) -> bool
     bad & lone == 0
 }
 
-// A word behind `at` bits with `before` ones among them, the last word of them `last`; `left` bits of the sequence are left.
+// A word behind `at` bits with `before` ones among them, the last word of them `last`; `left` bits of the sequence are
+// left.
 fn word_fits(labels: &[u16], x: u64, last: u64, at: usize, before: usize, left: usize) -> bool
     requires { ⌜ WordInside (length (now labels)) x last at before left ⌝ }
     ensures { λ r. ⌜ r ≡ wordFits (now (labels .entry)) x last at before left ⌝ }

@@ -1,4 +1,5 @@
--- What several calls say in numbers: a refusal is its number alone, every other answer begins with 0 and goes on with what it tells.
+-- What several calls say in numbers: a refusal is its number alone, every other answer begins with 0 and goes on with
+-- what it tells.
 --
 --     given         whether something was found
 --     saysValue     a value found, or no match
@@ -9,11 +10,12 @@
 -- Assumes nothing.
 use Prim.Native.Nat.{ℕ}
 use mathlib.Core.Bool.{Bool, true, false, cond}
-use mathlib.Core.List.{List, [], _∷_, _++_}
+use mathlib.Core.List.{List, [], _∷_}
 use mathlib.Core.Option.{Option, none, some}
-use lib.ListN.{length, drop}
+use lib.ListN.{length}
 use lib.Dec.{leb}
 use Rattle.keymap.specs.Key.{Key}
+use Rattle.keymap.specs.Buffers.{over}
 use Rattle.keymap.specs.Refusals.{refuses, KeyRoom}
 
 abbrev pub given : Option ℕ → Bool
@@ -34,7 +36,7 @@ saysWritten k out = cond (leb (length k) (length out)) (0 ∷ length k ∷ []) (
 
 -- the buffer with a key written to its front, as it was where it is shorter
 abbrev pub writtenTo : Key → List ℕ → List ℕ
-writtenTo k out = cond (leb (length k) (length out)) (k ++ drop (length k) out) out
+writtenTo k out = cond (leb (length k) (length out)) (over k out) out
 
 abbrev pub writtenKey : Option Key → List ℕ → List ℕ
 writtenKey none out = out

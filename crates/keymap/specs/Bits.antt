@@ -1,4 +1,5 @@
--- Bits in words (01, "The image"): bit i of a sequence has weight 2^(i mod 64) in word i/64, and the bits that the last word does not use are 0.
+-- Bits in words (01, "The image"): bit i of a sequence has weight 2^(i mod 64) in word i/64, and the bits that the last
+-- word does not use are 0.
 -- A bit is the number 0 or 1.
 --
 --     bit           the bit of some words at a place

@@ -1,4 +1,5 @@
--- Level order by a queue, as `naive_trie_b_f_iter.rs` goes and `trie_builder.rs` emits: take the first of the queue, and put its children behind the others.
+-- Level order by a queue, as `naive_trie_b_f_iter.rs` goes and `trie_builder.rs` emits: take the first of the queue,
+-- and put its children behind the others.
 --
 --     Row           what an image says of a node: label, value, number of children
 --     rows          the rows of a forest's nodes, in the order of the queue
@@ -43,7 +44,8 @@ forestBits f = sequence (width f ∷ map rowDegree (rows f))
 unfoldable pub forestImage : Forest → Image
 forestImage f = record { labels = map rowLabel (rows f); values = map rowValue (rows f); words = pack (forestBits f) }
 
--- the queue of `naive_trie_b_f_iter.rs`: runs of siblings, each with the phantom sibling that ends it. A node gives a 1 and puts its children,
+-- the queue of `naive_trie_b_f_iter.rs`: runs of siblings, each with the phantom sibling that ends it. A node gives a 1
+-- and puts its children,
 -- with their phantom, behind the others; a phantom gives a 0. The first argument bounds the steps
 unfoldable pub emit : ℕ → List Forest → List ℕ
 emit zero q = []

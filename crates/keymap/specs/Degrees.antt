@@ -1,4 +1,5 @@
--- Jacobson's level-order unary degree sequence: for each node in level order one 1 per child and a 0, with 1, 0 before them all.
+-- Jacobson's level-order unary degree sequence: for each node in level order one 1 per child and a 0, with 1, 0 before
+-- them all.
 -- The degrees are those of the root and then of each other node.
 -- Assumes nothing.
 use Prim.Native.Nat.{ℕ, zero, suc, _+_}

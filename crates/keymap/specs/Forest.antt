@@ -52,7 +52,8 @@ valueAt (a ∷ k) t = valueAt k (branch a (t .1))
 unfoldable pub alter : ℕ → (Tree → Tree) → Forest → Forest
 alter a g empty = hang a (g bare) empty
 alter a g (node b w kids next) =
-    pick (compare a b) (hang a (g bare) (node b w kids next)) (hang b (g (w, kids)) next) (node b w kids (alter a g next))
+    pick (compare a b) (hang a (g bare) (node b w kids next)) (hang b (g (w, kids)) next)
+    (node b w kids (alter a g next))
 
 unfoldable pub grow : Key → ℕ → Tree → Tree
 grow [] v t = (some v, t .1)

@@ -1,5 +1,7 @@
--- The image of a map (01, "The image"): its trie's nodes in breadth-first order, as label entries, values and level-order bits.
--- A node is the prefix that its path spells, the root the empty one; node m of 2 or more is the prefix at index m - 2 and has entry m - 2.
+-- The image of a map (01, "The image"): its trie's nodes in breadth-first order, as label entries, values and
+-- level-order bits.
+-- A node is the prefix that its path spells, the root the empty one; node m of 2 or more is the prefix at index m - 2
+-- and has entry m - 2.
 -- The map "ab" 7, "b" 3 has the nodes "a", "b", "ab"; its bits are 1 0 110 10 0 0, which are the word 45.
 --
 --     childrenIn    the children of a node

@@ -1,4 +1,5 @@
--- A label and whether there is a value, in one number: word 0 of a record and an entry of an image (01: "label, plus 256 if ..").
+-- A label and whether there is a value, in one number: word 0 of a record and an entry of an image (01: "label, plus
+-- 256 if ..").
 --
 --     labelEntry    the number of a label with or without a value
 --     valueWord     what stands for the value beside it: 0 if there is none, so 0 alone does not tell

@@ -1,4 +1,5 @@
--- A map: its entries, each a key with its value, keys strictly rising in byte order. Two maps with the same look-ups are one list.
+-- A map: its entries, each a key with its value, keys strictly rising in byte order. Two maps with the same look-ups
+-- are one list.
 --
 --     Rising        the keys strictly rise
 --     Proper        the keys are nonempty and of bytes, the values of 32 bits

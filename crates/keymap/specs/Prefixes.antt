@@ -1,4 +1,5 @@
--- The distinct nonempty prefixes of a map's keys: the records that a pool has in use, and an image's nodes besides the root (01, demand 3).
+-- The distinct nonempty prefixes of a map's keys: the records that a pool has in use, and an image's nodes besides the
+-- root (01, demand 3).
 --
 --     level         the distinct prefixes of one length, rising
 --     prefixes      all of them, in breadth-first order

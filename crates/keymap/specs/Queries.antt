@@ -1,4 +1,5 @@
--- What 01 asks of a map (modules 5 and 6; goto of module 7 is `commonOfAll` of `longer`). Any engine that answers from a map is held to these; the exact match is `lookup`.
+-- What 01 asks of a map (modules 5 and 6; goto of module 7 is `commonOfAll` of `longer`). Any engine that answers from
+-- a map is held to these; the exact match is `lookup`.
 --
 --     beginning        the predictive listing of a query: the keys that begin with it
 --     longer           its postfix listing: those that are longer besides
@@ -8,7 +9,8 @@
 --     commonPrefixIn   the shortest key that is a prefix of the query and longer than a length already seen
 --     leastAbove       the least key above another: what the next step of a listing gives
 --
--- The claims `LongestCommon`, `ShortestWithin` and `NextAfter` are 01's words for the last four: their laws say which answer is claimed, and when there is none.
+-- The claims `LongestCommon`, `ShortestWithin` and `NextAfter` are 01's words for the last four: their laws say which
+-- answer is claimed, and when there is none.
 -- Assumes nothing.
 use Prim.Native.Nat.{ℕ, _≤_, _<_}
 use mathlib.Core.Bool.{Bool, true, false, cond, _&&_}

@@ -1,4 +1,5 @@
--- The next of some paths in byte order. A listing goes from node to node below its top in this order, and gives those that have a value.
+-- The next of some paths in byte order. A listing goes from node to node below its top in this order, and gives those
+-- that have a value.
 --
 --     NextIn        the least of some paths above a path
 --     LastIn        none of them is above it

@@ -1,4 +1,5 @@
--- Numbers as text (01, module 8): "one decimal of 1 to 10 digits, at most 4,294,967,295, no leading zero but "0" itself".
+-- Numbers as text (01, module 8): "one decimal of 1 to 10 digits, at most 4,294,967,295, no leading zero but "0"
+-- itself".
 -- Every reader and every writer of numbers cites these.
 --
 --     decimal       the digits of a number, as they are written
@@ -20,7 +21,8 @@ zeroDigit = 48
 abbrev pub mostDigits : ℕ
 mostDigits = 10
 
--- the first argument bounds the steps, and the second says that n is one digit: no more steps are computed than there are digits
+-- the first argument bounds the steps, and the second says that n is one digit: no more steps are computed than there
+-- are digits
 unfoldable pub decimalFrom : ℕ → Bool → ℕ → List ℕ
 decimalFrom zero one n = []
 decimalFrom (suc k) true n = (zeroDigit + n) ∷ []
@@ -47,7 +49,9 @@ unfoldable pub leadingZero : List ℕ → Bool
 leadingZero t = ltb 1 (length t) && eqb (getD t 0 0) zeroDigit
 
 unfoldable pub isDecimal : List ℕ → Bool
-isDecimal t = leb 1 (length t) && leb (length t) mostDigits && not (leadingZero t) && areDigits t && ltb (valueAfter 0 t) valueLimit
+isDecimal t =
+    leb 1 (length t) && leb (length t) mostDigits && not (leadingZero t) && areDigits t
+    && ltb (valueAfter 0 t) valueLimit
 
 unfoldable pub numberIn : List ℕ → Option ℕ
 numberIn t = cond (isDecimal t) (some (valueAfter 0 t)) none

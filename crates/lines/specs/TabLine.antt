@@ -1,4 +1,5 @@
--- A line and its entry (01, module 8): "A line is key (no TAB or LF, maybe empty), one TAB, one decimal". A line that breaks this has none.
+-- A line and its entry (01, module 8): "A line is key (no TAB or LF, maybe empty), one TAB, one decimal". A line that
+-- breaks this has none.
 --
 --     tabEntry      the entry of a line
 --     tabLineSays   what `tab_line` answers: the key's length and the number, or the refusal
@@ -28,7 +29,9 @@ withNumber k none = none
 withNumber k (some v) = some (k, v)
 
 unfoldable pub tabEntry : List ℕ → Option Entry
-tabEntry line = cond (holds tab line && not (holds lineFeed (keyPart line))) (withNumber (keyPart line) (numberIn (numberPart line))) none
+tabEntry line =
+    cond (holds tab line && not (holds lineFeed (keyPart line)))
+    (withNumber (keyPart line) (numberIn (numberPart line))) none
 
 abbrev pub entrySays : Option Entry → List ℕ
 entrySays none = refuses Refusal.BadLine

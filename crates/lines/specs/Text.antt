@@ -1,9 +1,11 @@
--- The lines of a text (01, module 8): "Lines end at LF; the last LF may be absent, and an empty rest after the last LF is no line."
+-- The lines of a text (01, module 8): "Lines end at LF; the last LF may be absent, and an empty rest after the last LF
+-- is no line."
 --
 --     linesOf       the lines, without their LF
 --     entryLines    those that are entries
 --     entriesOf     their entries, none for a line that breaks the rule
---     nextLineSays  what `next_line` answers: where the line at a position ends and where the next one begins, or that there is none
+--     nextLineSays  what `next_line` answers: where the line at a position ends and where the next one begins, or that
+--                   there is none
 -- Assumes nothing.
 use Prim.Native.Nat.{ℕ, suc, _+_, min}
 use mathlib.Core.Bool.{cond}
@@ -31,7 +33,8 @@ entryLines text = linesOf text
 unfoldable pub entriesOf : List ℕ → List (Option Entry)
 entriesOf text = map tabEntry (entryLines text)
 
--- behind a line stands its LF, unless the text ends there: then the next line would begin at the text's end, where there is none
+-- behind a line stands its LF, unless the text ends there: then the next line would begin at the text's end, where
+-- there is none
 abbrev pub firstSays : ℕ → ℕ → List (List ℕ) → List ℕ
 firstSays len at [] = 0 ∷ []
 firstSays len at (l ∷ ls) = 0 ∷ (at + length l) ∷ min (suc (at + length l)) len ∷ []

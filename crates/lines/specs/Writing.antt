@@ -1,4 +1,5 @@
--- The text of an entry and of a map (01, module 8: "the listing in the same form, each line with LF"). It is defined for every key.
+-- The text of an entry and of a map (01, module 8: "the listing in the same form, each line with LF"). It is defined
+-- for every key.
 --
 --     tabLine       the line of an entry, without LF
 --     tabText       the same with LF
@@ -40,7 +41,8 @@ AllPlain [] = Unit {0}
 AllPlain (e ∷ m) = Plain e × AllPlain m
 
 unfoldable pub writeLineSays : Entry → List ℕ → List ℕ
-writeLineSays e out = cond (ltb (length out) (length (tabText e))) (refuses Refusal.KeyRoom) (0 ∷ length (tabText e) ∷ [])
+writeLineSays e out =
+    cond (ltb (length out) (length (tabText e))) (refuses Refusal.KeyRoom) (0 ∷ length (tabText e) ∷ [])
 
 unfoldable pub writeLineOut : Entry → List ℕ → List ℕ
 writeLineOut e out = cond (ltb (length out) (length (tabText e))) out (over (tabText e) out)

@@ -28,7 +28,8 @@ impl Parsed {
 
 // Of `next_line`.
 pub enum Cut {
-    // The line goes from the position up to, not including, `end`, where its LF or the text's end is; the next line begins at `next`.
+    // The line goes from the position up to, not including, `end`, where its LF or the text's end is; the next line
+    // begins at `next`.
     Line { end: usize, next: usize },
     // The position is at the text's end or past it.
     NoLine,

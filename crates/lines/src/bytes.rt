@@ -8,7 +8,8 @@ pub const TAB: u8 = 9;
 
 pub const LF: u8 = 10;
 
-// Where the first `b` stands at `from` or beyond: at the text's end where there is none, at `from` where that is past it.
+// Where the first `b` stands at `from` or beyond: at the text's end where there is none, at `from` where that is past
+// it.
 pub fn find(text: &[u8], from: usize, b: u8) -> usize
     ensures { λ r. ⌜ r ≡ from + stretch b (drop from (now (text .entry))) ⌝ }
 {

@@ -97,7 +97,8 @@ pub fn digit_count(number: u32) -> usize
 pub fn put_decimal(number: u32, count: usize, at: usize, out: &mut [u8])
     requires { ⌜ count ≡ length (decimal number) ⌝ }
     requires { ⌜ at + count ≤ length (now out) ⌝ }
-    ensures { λ _. ⌜ now (out .exit) ≡ take at (now (out .entry)) ++ over (decimal number) (drop at (now (out .entry))) ⌝ }
+    ensures { λ _.
+        ⌜ now (out .exit) ≡ take at (now (out .entry)) ++ over (decimal number) (drop at (now (out .entry))) ⌝ }
 {
     let mut rest = number;
     let mut left = count;

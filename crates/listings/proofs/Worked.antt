@@ -4,6 +4,7 @@ use mathlib.Core.Path.{_≡_, refl}
 use Prim.Native.Nat.{ℕ}
 use mathlib.Core.List.{List, [], _∷_, map}
 use Rattle.keymap.specs.Key.{Key, compareKeys, beginsWith, extends}
+use Rattle.keymap.specs.Buffers.{over}
 use Rattle.keymap.specs.Map.{lookup}
 use Rattle.keymap.specs.Queries.{keep, beginning, longer, leastAbove}
 use Rattle.keymap.specs.Prefixes.{level, deepest, levels, prefixes}
@@ -78,5 +79,5 @@ lines =
     ∷ []
 
 pub worked-listings : map (λ (l : Line). answer (l .lent) (l .ask)) lines ≡ map (λ (l : Line). l .says) lines
-unfolding answer emptyMap mapA damaged lines compareKeys beginsWith extends lookup keep beginning longer level deepest levels prefixes nodes isNode pathOf bit table unpack degreesFrom listForest listTree width takeTrees dropTrees claim rebuild rowsFrom degreesIn rowsIn decode imageMap entryFits labelsRise oneFits childlessFits bitFits passesFrom lengthsFit endsFit imageTest indexOf nodeOf leastAbove belongs startSays stepSays keySays keyOut
+unfolding answer emptyMap mapA damaged lines compareKeys beginsWith extends lookup keep beginning longer level deepest levels prefixes nodes isNode pathOf bit table unpack degreesFrom listForest listTree width takeTrees dropTrees claim rebuild rowsFrom degreesIn rowsIn decode imageMap entryFits labelsRise oneFits childlessFits bitFits passesFrom lengthsFit endsFit imageTest indexOf nodeOf leastAbove belongs startSays stepSays keySays keyOut over
 worked-listings = refl

@@ -1,5 +1,7 @@
--- The answers of the listings in 01's numbers: a refusal is its number alone, every other answer begins with 0 and goes on with what it tells.
--- A cursor tells its kind, then, unless it is finished, its top and the node given last. A step tells the node that it gives, its value and the next cursor;
+-- The answers of the listings in 01's numbers: a refusal is its number alone, every other answer begins with 0 and goes
+-- on with what it tells.
+-- A cursor tells its kind, then, unless it is finished, its top and the node given last. A step tells the node that it
+-- gives, its value and the next cursor;
 -- nodes are numbered from 1, and a step that gives none tells node 0.
 -- Assumes nothing.
 use Prim.Native.Nat.{ℕ}

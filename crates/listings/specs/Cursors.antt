@@ -1,6 +1,9 @@
--- Listings (01, module 6). "Predictive start gives a cursor over the keys beginning with the query, postfix start over those that are longer; no path gives
--- a finished cursor, and so does an empty set. A step answers the least key of its set above the last one given, as node and value, with the next cursor.
--- A step on a finished cursor ends at once, and again each time. After the last key the end comes with a finished cursor."
+-- Listings (01, module 6). "Predictive start gives a cursor over the keys beginning with the query, postfix start over
+-- those that are longer; no path gives
+-- a finished cursor, and so does an empty set. A step answers the least key of its set above the last one given, as
+-- node and value, with the next cursor.
+-- A step on a finished cursor ends at once, and again each time. After the last key the end comes with a finished
+-- cursor."
 --
 --     setOf         the keys of a listing
 --     belongs       "fresh at a top (a node from 1 to n+1), at a valued node of that top's set, or finished"

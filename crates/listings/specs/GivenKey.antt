@@ -1,4 +1,5 @@
--- The key of a cursor (01, module 6): "The key of a cursor at a node is written on request and its length answered, in postfix listings from after the query;
+-- The key of a cursor (01, module 6): "The key of a cursor at a node is written on request and its length answered, in
+-- postfix listings from after the query;
 -- bytes past the key stay." Refusal 7 is given too where "a key is asked of a cursor that is fresh or finished".
 --
 --     givenKey      the key of a node in a listing

@@ -1,4 +1,5 @@
--- Listings by node numbers, as the code finds them: what each function computes from any labels, values and bits, of which the first len are read, and any numbers.
+-- Listings by node numbers, as the code finds them: what each function computes from any labels, values and bits, of
+-- which the first len are read, and any numbers.
 -- proofs/Laws/Numbers has that on an image that some map has they are what the map's definitions say.
 --
 --     inSetBy       a node is that of a key of a top's set
@@ -33,7 +34,8 @@ leavesOut kinds.Postfix top node = eqb node top
 
 -- "at a valued node of that top's set"
 unfoldable pub inSetBy : List ℕ → List ℕ → (ℕ → ℕ) → ℕ → Kind → ℕ → ℕ → Bool
-inSetBy ls vs b len kind top node = given (valueOfNode ls vs node) && cond (leavesOut kind top node) false (belowBy b len top node)
+inSetBy ls vs b len kind top node =
+    given (valueOfNode ls vs node) && cond (leavesOut kind top node) false (belowBy b len top node)
 
 -- 0 says that nothing was given yet
 abbrev pub lastStands : List ℕ → List ℕ → (ℕ → ℕ) → ℕ → Kind → ℕ → ℕ → Bool
@@ -67,7 +69,8 @@ numberLimit = 2 ^ 32
 -- from the node where a walk ended, if it ended anywhere
 abbrev pub startFrom : List ℕ → (ℕ → ℕ) → ℕ → Kind → Option ℕ → Cursor
 startFrom ls b len kind none = Finished kind
-startFrom ls b len kind (some k) = cond (ltb k numberLimit && hasKeysBy ls b len kind (standAt b len k)) (Open kind k 0) (Finished kind)
+startFrom ls b len kind (some k) =
+    cond (ltb k numberLimit && hasKeysBy ls b len kind (standAt b len k)) (Open kind k 0) (Finished kind)
 
 unfoldable pub startBy : List ℕ → (ℕ → ℕ) → ℕ → Kind → Key → Cursor
 startBy ls b len kind q = startFrom ls b len kind (walked ls b len q)

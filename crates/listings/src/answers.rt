@@ -16,7 +16,8 @@ pub enum Cursor {
 }
 
 impl Cursor {
-    // A fresh cursor over the keys of a node's set: any number may be handed in, and the calls refuse those that are no node's.
+    // A fresh cursor over the keys of a node's set: any number may be handed in, and the calls refuse those that are no
+    // node's.
     pub fn top(kind: Kind, node: u32) -> Cursor
         ensures { λ r. ⌜ r ≡ Open kind node 0 ⌝ }
     {

@@ -1,6 +1,9 @@
-// Listings, after `src/iter/search_iter.rs` and `src/iter/postfix_iter.rs`. A cursor holds numbers alone, so each call tests the image, and then that the numbers
-// belong to it. The image is tested before anything else: a refused image answers NotAnImage for a finished cursor and for the empty query too.
-// The functions that the calls are made of answer for any slices and numbers (specs/Numbers), and read the first `len` bits.
+// Listings, after `src/iter/search_iter.rs` and `src/iter/postfix_iter.rs`. A cursor holds numbers alone, so each call
+// tests the image, and then that the numbers
+// belong to it. The image is tested before anything else: a refused image answers NotAnImage for a finished cursor and
+// for the empty query too.
+// The functions that the calls are made of answer for any slices and numbers (specs/Numbers), and read the first `len`
+// bits.
 ghost use mathlib.Core.Path.{_≡_};
 ghost use Rattle.keymap.specs.Bits.{bit};
 ghost use Rattle.image.specs.Meaning.{lentImage};
@@ -38,7 +41,8 @@ fn in_set(
     top: usize,
     node: usize,
 ) -> bool
-    ensures { λ r. ⌜ r ≡ inSetBy (now (labels .entry)) (now (values .entry)) (bit (now (words .entry))) len kind top node ⌝ }
+    ensures { λ r.
+        ⌜ r ≡ inSetBy (now (labels .entry)) (now (values .entry)) (bit (now (words .entry))) len kind top node ⌝ }
 {
     let Held::Value(_) = value_at(labels, values, node) else {
         return false;
@@ -64,7 +68,8 @@ pub fn stands(
     top: u32,
     last: u32,
 ) -> bool
-    ensures { λ r. ⌜ r ≡ standsBy (now (labels .entry)) (now (values .entry)) (bit (now (words .entry))) len kind top last ⌝ }
+    ensures { λ r.
+        ⌜ r ≡ standsBy (now (labels .entry)) (now (values .entry)) (bit (now (words .entry))) len kind top last ⌝ }
 {
     if !is_node(labels, top) {
         return false;
@@ -88,7 +93,8 @@ pub fn stands(
 
 // The first key that begins with the top's path: its own, if it has a value.
 fn first_given(labels: &[u16], values: &[u32], words: &[u64], len: usize, top: usize) -> Given
-    ensures { λ r. ⌜ r ≡ givenOf (firstGivenBy (now (labels .entry)) (now (values .entry)) (bit (now (words .entry))) len top) ⌝ }
+    ensures { λ r.
+        ⌜ r ≡ givenOf (firstGivenBy (now (labels .entry)) (now (values .entry)) (bit (now (words .entry))) len top) ⌝ }
 {
     match value_at(labels, values, top) {
         Held::Value(value) => Given::Entry { node: top, value },
@@ -106,7 +112,11 @@ fn next_given(
     top: usize,
     last: usize,
 ) -> Given
-    ensures { λ r. ⌜ r ≡ givenOf (nextGivenBy (now (labels .entry)) (now (values .entry)) (bit (now (words .entry))) len kind top last) ⌝ }
+    ensures { λ r.
+        ⌜
+        r
+        ≡ givenOf (nextGivenBy (now (labels .entry)) (now (values .entry)) (bit (now (words .entry))) len kind top last)
+        ⌝ }
 {
     if last != 0 {
         return next_valued(labels, values, words, len, top, last);
@@ -148,7 +158,8 @@ fn start(labels: &[u16], words: &[u64], len: usize, kind: Kind, query: &[u8]) ->
 
 // A cursor over the keys that begin with a query, finished where there are none.
 pub fn predictive_search(labels: &[u16], values: &[u32], words: &[u64], query: &[u8]) -> Started
-    ensures answer { λ r. ⌜ saidStarted r ≡ startSays kinds.Predictive (lentImage labels values words) (now (query .entry)) ⌝ }
+    ensures answer { λ r.
+        ⌜ saidStarted r ≡ startSays kinds.Predictive (lentImage labels values words) (now (query .entry)) ⌝ }
 {
     if !is_image(labels, values, words) {
         return Started::NotAnImage;
@@ -159,7 +170,8 @@ pub fn predictive_search(labels: &[u16], values: &[u32], words: &[u64], query: &
 
 // A cursor over the keys that begin with a query and are longer, finished where there are none.
 pub fn postfix_search(labels: &[u16], values: &[u32], words: &[u64], query: &[u8]) -> Started
-    ensures answer { λ r. ⌜ saidStarted r ≡ startSays kinds.Postfix (lentImage labels values words) (now (query .entry)) ⌝ }
+    ensures answer { λ r.
+        ⌜ saidStarted r ≡ startSays kinds.Postfix (lentImage labels values words) (now (query .entry)) ⌝ }
 {
     if !is_image(labels, values, words) {
         return Started::NotAnImage;
@@ -168,7 +180,8 @@ pub fn postfix_search(labels: &[u16], values: &[u32], words: &[u64], query: &[u8
     Started::At(start(labels, words, len, Kind::Postfix, query))
 }
 
-// The least key of the cursor's set above the one given last, with the cursor to go on with; after the last key, and of a finished cursor, the end.
+// The least key of the cursor's set above the one given last, with the cursor to go on with; after the last key, and of
+// a finished cursor, the end.
 pub fn step(labels: &[u16], values: &[u32], words: &[u64], cursor: Cursor) -> Stepped
     ensures answer { λ r. ⌜ saidStepped r ≡ stepSays (lentImage labels values words) cursor ⌝ }
 {

@@ -1,4 +1,5 @@
-// The key that a cursor gave last, after the buffers of `src/iter/search_iter.rs` and `src/iter/postfix_iter.rs`: the numbers tell it, and it is spelled on request.
+// The key that a cursor gave last, after the buffers of `src/iter/search_iter.rs` and `src/iter/postfix_iter.rs`: the
+// numbers tell it, and it is spelled on request.
 ghost use mathlib.Core.Path.{_≡_};
 ghost use Rattle.keymap.specs.Bits.{bit};
 ghost use Rattle.image.specs.Meaning.{lentImage};
@@ -30,7 +31,8 @@ fn given_len(words: &[u64], len: usize, kind: Kind, top: usize, node: usize) -> 
     }
 }
 
-// Writes the key that a cursor gave last to the front of a buffer, in postfix listings from after the query; the bytes past it stay.
+// Writes the key that a cursor gave last to the front of a buffer, in postfix listings from after the query; the bytes
+// past it stay.
 pub fn cursor_key(
     labels: &[u16],
     values: &[u32],

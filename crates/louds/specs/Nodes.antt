@@ -1,5 +1,6 @@
 -- Children and parents (01, "The image"): "Children of node k are the ones between the k-th and (k+1)-th zero;
--- the parent of node m has as its number the count of zeros before the m-th one." A last run of ones that no zero closes ends with the sequence.
+-- the parent of node m has as its number the count of zeros before the m-th one." A last run of ones that no zero
+-- closes ends with the sequence.
 --
 --     childrenOf    the numbers of a node's children: the first, and how many
 --     parentOf      the number of its parent

@@ -1,5 +1,7 @@
--- Selects (01, "The image": "the k-th .. zero", "the m-th one"): where a bit stands, counted from 1, among the first len bits.
--- Marks are a function from places to 0 or 1 that says 1 of the places that count: a sequence's ones mark themselves, and its zeros are marked by `gap`.
+-- Selects (01, "The image": "the k-th .. zero", "the m-th one"): where a bit stands, counted from 1, among the first
+-- len bits.
+-- Marks are a function from places to 0 or 1 that says 1 of the places that count: a sequence's ones mark themselves,
+-- and its zeros are marked by `gap`.
 --
 --     kth           the k-th marked place below len
 --     oneAt         the m-th one

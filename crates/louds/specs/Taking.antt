@@ -1,4 +1,5 @@
--- Ones taken away from the bottom of a word, as the code does it for any numbers handed in; proofs/Laws/Taking has what it is where the sums are the word's own.
+-- Ones taken away from the bottom of a word, as the code does it for any numbers handed in; proofs/Laws/Taking has what
+-- it is where the sums are the word's own.
 --
 --     cleared      a word without its n lowest ones
 --     onesFrom     and without those before its j-th, by its ones up to the end of each byte
@@ -25,11 +26,14 @@ cleared (suc n) x = cleared n (bitAnd x (x - 1))
 
 -- 127, less the ones before each byte, and j, in that byte
 abbrev pub fewerBy : ℕ → ℕ → ℕ
-fewerBy sums j = ((complement (sums * 2 ^ 8 % 2 ^ wordBits) + mostLess) % 2 ^ wordBits + j % 256 * lowBits) % 2 ^ wordBits
+fewerBy sums j =
+    ((complement (sums * 2 ^ 8 % 2 ^ wordBits) + mostLess) % 2 ^ wordBits + j % 256 * lowBits) % 2 ^ wordBits
 
 -- where the byte before the first begins that has j ones before it, or the last
 abbrev pub byteStart : ℕ → ℕ
 byteStart fewer = bitAnd (trailingZeros wordBits (bitAnd (complement fewer) topBits) + 56) 56
 
 unfoldable pub onesFrom : ℕ → ℕ → ℕ → ℕ
-onesFrom x sums j = cleared (fewerBy sums j / 2 ^ byteStart (fewerBy sums j) % 128) (above x (byteStart (fewerBy sums j)) % 2 ^ wordBits)
+onesFrom x sums j =
+    cleared (fewerBy sums j / 2 ^ byteStart (fewerBy sums j) % 128)
+    (above x (byteStart (fewerBy sums j)) % 2 ^ wordBits)

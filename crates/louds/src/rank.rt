@@ -1,4 +1,5 @@
-// Ranks: how many ones or zeros stand before a place. Ones are counted by whole words, and by part of the last; the ones of a single word are also counted up to the end of each of its bytes.
+// Ranks: how many ones or zeros stand before a place. Ones are counted by whole words, and by part of the last; the
+// ones of a single word are also counted up to the end of each of its bytes.
 ghost use mathlib.Core.Path.{_≡_};
 ghost use Prim.Native.Nat.{_+_, _*_, _/_, _%_, _^_};
 ghost use lib.Count.{ones};
@@ -18,7 +19,8 @@ pub fn ones_in(word: u64) -> usize
 fn ones_of_bytes(word: u64) -> u64
     ensures { λ r. ⌜ r ≡ sumBelow (λ i. ones (word / 2 ^ (8 * i) % 2 ^ 8) * 2 ^ (8 * i)) 8 ⌝ }
 {
-    // first of every two bits, then of four, then of eight: an upper bit weighs 2, and two counts up to 4 fit in four bits
+    // first of every two bits, then of four, then of eight: an upper bit weighs 2, and two counts up to 4 fit in four
+    // bits
     let twos = word - ((word >> 1) & 0x5555555555555555u64);
     let fours = (twos & 0x3333333333333333u64) + ((twos >> 2) & 0x3333333333333333u64);
     (fours + (fours >> 4)) & 0x0f0f0f0f0f0f0f0fu64

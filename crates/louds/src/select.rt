@@ -1,4 +1,5 @@
-// Selects: where the k-th zero or one stands, counted from 1, among the first `len` bits, or going down, among those before a place. The 0-th is missing.
+// Selects: where the k-th zero or one stands, counted from 1, among the first `len` bits, or going down, among those
+// before a place. The 0-th is missing.
 // Words are passed by how many zeros or ones they have, and the one that has the k-th is looked into.
 ghost use mathlib.Core.Path.{_≡_};
 ghost use Prim.Native.Nat.{_+_, _*_, _/_, _≤_, _<_, min};
@@ -23,7 +24,8 @@ const LOW_BITS: u64 = 0x0101010101010101;
 // The highest bit of each byte.
 const TOP_BITS: u64 = 0x8080808080808080;
 
-// Up to so many are found by taking ones away from the bottom of a word. Any number would be right; with 4 and with 16 nearly every call took more instructions.
+// Up to so many are found by taking ones away from the bottom of a word. Any number would be right; with 4 and with 16
+// nearly every call took more instructions.
 const FEW: usize = 8;
 
 // Where the lowest one of a word is; 64 if it has none.
@@ -52,7 +54,8 @@ fn picked(word: u64, j: usize) -> usize
     WORD_BITS
 }
 
-// Where the j-th one of a word is that has so many. Beyond a few, its byte is found by the counts of all bytes at once, and then looked into.
+// Where the j-th one of a word is that has so many. Beyond a few, its byte is found by the counts of all bytes at once,
+// and then looked into.
 fn nth_one(word: u64, j: usize) -> usize
     requires { ⌜ (0 < j) × (j ≤ ones word) ⌝ }
     ensures { λ r. ⌜ kth (digit word) wordBits j ≡ At r ⌝ }
@@ -71,11 +74,13 @@ fn nth_one(word: u64, j: usize) -> usize
 // What 127 in each byte is more than the complement of 0.
 const MOST_LESS: u64 = 0x7f7f7f7f7f7f7f80;
 
-// The ones of a word without those before its j-th, where `sums` are its ones up to the end of each byte. Other sums give other ones of it, or none.
+// The ones of a word without those before its j-th, where `sums` are its ones up to the end of each byte. Other sums
+// give other ones of it, or none.
 pub fn ones_from(word: u64, sums: u64, j: usize) -> u64
     ensures { λ r. ⌜ r ≡ onesFrom word sums j ⌝ }
 {
-    // in each byte 127 less the ones before the byte, plus j: its top bit is set if those are fewer than j, so the j-th is in the byte before the first without it, or in the last byte
+    // in each byte 127 less the ones before the byte, plus j: its top bit is set if those are fewer than j, so the j-th
+    // is in the byte before the first without it, or in the last byte
     let fewer = wrapping_add_u64(
         wrapping_add_u64(!(sums << 8), MOST_LESS),
         (j % 256) as u64 * LOW_BITS,
@@ -140,7 +145,8 @@ fn near_zero(words: &[u64], len: usize, from: usize, k: usize) -> Spot
     if p < len { Spot::At(p) } else { Spot::Missing }
 }
 
-// The k-th bit that equals v, at `from` or beyond: whole words are passed by their count, and the one that has it is looked into.
+// The k-th bit that equals v, at `from` or beyond: whole words are passed by their count, and the one that has it is
+// looked into.
 fn bit_from(words: &[u64], len: usize, v: u64, from: usize, k: usize) -> Spot
     ensures { λ r. ⌜ r ≡ bitFrom (bit (now (words .entry))) len v from k ⌝ }
 {
@@ -185,8 +191,10 @@ pub fn zero_at(words: &[u64], len: usize, k: usize) -> Spot
     zero_from(words, len, 0, k)
 }
 
-// The k-th zero at `from` or beyond; bits before `from` do not count. Just past the j-th zero it is the zero j + k of the sequence.
-// The next zeros of a walk are near: where few are asked for, the first word is looked into before its bits are counted.
+// The k-th zero at `from` or beyond; bits before `from` do not count. Just past the j-th zero it is the zero j + k of
+// the sequence.
+// The next zeros of a walk are near: where few are asked for, the first word is looked into before its bits are
+// counted.
 pub fn zero_from(words: &[u64], len: usize, from: usize, k: usize) -> Spot
     ensures { λ r. ⌜ r ≡ zeroFrom (bit (now (words .entry))) len from k ⌝ }
 {

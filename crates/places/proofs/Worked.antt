@@ -6,6 +6,7 @@ use mathlib.Core.Path.{_≡_, refl}
 use Prim.Native.Nat.{ℕ}
 use mathlib.Core.List.{List, [], _∷_, map}
 use Rattle.keymap.specs.Key.{Key, compareKeys, beginsWith, extends, commonPrefix}
+use Rattle.keymap.specs.Buffers.{over}
 use Rattle.keymap.specs.Map.{lookup}
 use Rattle.keymap.specs.Queries.{keep, beginning, longer, isPrefixIn, commonOfAll}
 use Rattle.keymap.specs.Prefixes.{level, deepest, levels, prefixes}
@@ -110,7 +111,7 @@ lines =
     ∷ []
 
 pub worked-places : map (λ (l : Line). answer (l .lent) (l .ask)) lines ≡ map (λ (l : Line). l .says) lines
-unfolding answer emptyMap mapA nested damaged lines compareKeys beginsWith extends commonPrefix lookup keep beginning longer isPrefixIn commonOfAll level deepest levels prefixes nodes isNode pathOf indexOf nodeOf bit table unpack degreesFrom listForest listTree width takeTrees dropTrees claim rebuild rowsFrom degreesIn rowsIn decode imageMap entryFits labelsRise oneFits childlessFits bitFits passesFrom lengthsFit endsFit imageTest resumeSays valueSays prefixLenSays prefixSays prefixOut pathSays querySays queryMoves walkable followSays followMoves gotoSays gotoMoves
+unfolding answer emptyMap mapA nested damaged lines compareKeys beginsWith extends commonPrefix lookup keep beginning longer isPrefixIn commonOfAll level deepest levels prefixes nodes isNode pathOf indexOf nodeOf bit table unpack degreesFrom listForest listTree width takeTrees dropTrees claim rebuild rowsFrom degreesIn rowsIn decode imageMap entryFits labelsRise oneFits childlessFits bitFits passesFrom lengthsFit endsFit imageTest resumeSays valueSays prefixLenSays prefixSays prefixOut pathSays querySays queryMoves walkable followSays followMoves gotoSays gotoMoves over
 worked-places = refl
 
 -- ---- the moves on numbers

@@ -1,13 +1,18 @@
--- Incremental search (01, module 7). "A place is a node number 1 to n+1 and is not tied to one image." Every call says refusal 6 of an image that no map has,
+-- Incremental search (01, module 7). "A place is a node number 1 to n+1 and is not tied to one image." Every call says
+-- refusal 6 of an image that no map has,
 -- then 7 of a place that does not belong, and a refusal leaves the place where it was.
--- In numbers a refusal is its number alone, and every other answer begins with 0. What a path is: 1 for Prefix, 2 for Match, 3 for PrefixAndMatch.
--- `query` says it, or nothing more where there is no such child; of the others Ok says 0 and what it holds, Err 1 and what it holds.
+-- In numbers a refusal is its number alone, and every other answer begins with 0. What a path is: 1 for Prefix, 2 for
+-- Match, 3 for PrefixAndMatch.
+-- `query` says it, or nothing more where there is no such child; of the others Ok says 0 and what it holds, Err 1 and
+-- what it holds.
 --
 --     pathSays      what a path is: some longer key begins with it, and it is a key
 --     querySays     "Query moves or, with no such child, stays", and `queryMoves`: where it leaves the place
 --     walkable      how many labels of a query lead on from a path
---     followSays    "`query_until` failing at index i answers Err(i) and has moved i labels; on the empty query Err(0), unmoved", and `followMoves`
---     gotoSays      "let K be the keys longer than p that begin with p. K empty: Ok(0). Else the place moves to the longest common prefix q of K,
+--     followSays    "`query_until` failing at index i answers Err(i) and has moved i labels; on the empty query Err(0),
+--                   unmoved", and `followMoves`
+--     gotoSays      "let K be the keys longer than p that begin with p. K empty: Ok(0). Else the place moves to the
+--                   longest common prefix q of K,
 --                   answering Ok of the distance if q is in K, else Err of it", and `gotoMoves`
 --     Promise       what a call over a lent place promises: its answer, and the place afterwards
 -- Assumes nothing.
@@ -118,7 +123,8 @@ walkable m p (a ∷ q) = cond (isPath m (p ++ (a ∷ []))) (suc (walkable m (p +
 
 abbrev pub followIn : Map → Key → Key → List ℕ
 followIn m p [] = saysErr 0
-followIn m p (a ∷ q) = cond (isPath m (p ++ (a ∷ q))) (saysOk (pathSays m (p ++ (a ∷ q)))) (saysErr (walkable m p (a ∷ q)))
+followIn m p (a ∷ q) =
+    cond (isPath m (p ++ (a ∷ q))) (saysOk (pathSays m (p ++ (a ∷ q)))) (saysErr (walkable m p (a ∷ q)))
 
 unfoldable pub followSays : Image → ℕ → Key → List ℕ
 followSays i k q = onPlace i k (followIn (imageMap i) (pathOf (imageMap i) k) q)
@@ -159,10 +165,13 @@ pub record Promise (said says : List ℕ) (after : Place) (moves : ℕ) : Type 0
   pub stands : after ≡ placeAt moves
 
 abbrev pub QueryPromise : Image → ℕ → Place → Queried → Place → Type 0
-QueryPromise i a before answer after = Promise (saidQueried answer) (querySays i (before .node) a) after (queryMoves i (before .node) a)
+QueryPromise i a before answer after =
+    Promise (saidQueried answer) (querySays i (before .node) a) after (queryMoves i (before .node) a)
 
 abbrev pub FollowPromise : Image → Key → Place → Followed → Place → Type 0
-FollowPromise i q before answer after = Promise (saidFollowed answer) (followSays i (before .node) q) after (followMoves i (before .node) q)
+FollowPromise i q before answer after =
+    Promise (saidFollowed answer) (followSays i (before .node) q) after (followMoves i (before .node) q)
 
 abbrev pub GotoPromise : Image → Place → Gone → Place → Type 0
-GotoPromise i before answer after = Promise (saidGone answer) (gotoSays i (before .node)) after (gotoMoves i (before .node))
+GotoPromise i before answer after =
+    Promise (saidGone answer) (gotoSays i (before .node)) after (gotoMoves i (before .node))

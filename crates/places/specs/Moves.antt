@@ -1,5 +1,7 @@
--- Moving from a node by labels, on numbers and on any slices, by the rule of a walk down: what the calls on a place answer, and where they leave it, once they have
--- tested image and number. On an image that some map has, and one of its nodes, it is what the map says (proofs/Laws/Moves).
+-- Moving from a node by labels, on numbers and on any slices, by the rule of a walk down: what the calls on a place
+-- answer, and where they leave it, once they have
+-- tested image and number. On an image that some map has, and one of its nodes, it is what the map says
+-- (proofs/Laws/Moves).
 --
 --     placeNumber   a node's number as a place has it
 --     answerBy      what a node is
@@ -75,7 +77,8 @@ followStops j k = record { answer = followed.Err j; node = placeNumber k }
 
 -- there, with no label left; of the empty query no label led on
 abbrev pub followEnds : Image → ℕ → ℕ → FollowMove
-followEnds i j k = cond (eqb j 0) (followStops 0 k) (record { answer = followed.Ok (answerBy i (standIn i k)); node = placeNumber k })
+followEnds i j k =
+    cond (eqb j 0) (followStops 0 k) (record { answer = followed.Ok (answerBy i (standIn i k)); node = placeNumber k })
 
 -- on to a child if there is one, else the walk stops
 abbrev pub followTo : Option ℕ → FollowMove → (ℕ → FollowMove) → FollowMove
@@ -85,7 +88,9 @@ followTo (some m) stops on = on m
 -- from node k, j labels on, by those that are left
 unfoldable pub followFrom : Image → Key → ℕ → ℕ → FollowMove
 followFrom i [] j k = followEnds i j k
-followFrom i (a ∷ q) j k = followTo (childBy (i .labels) (bit (i .words)) (bitsFor (entries i)) k a) (followStops j k) (λ m. followFrom i q (j + 1) m)
+followFrom i (a ∷ q) j k =
+    followTo (childBy (i .labels) (bit (i .words)) (bitsFor (entries i)) k a) (followStops j k)
+    (λ m. followFrom i q (j + 1) m)
 
 abbrev pub followBy : Image → ℕ → Key → FollowMove
 followBy i k q = followFrom i q 0 k
@@ -98,7 +103,8 @@ goneTo none d = gone.Err d
 goneTo (some v) d = gone.Ok d
 
 abbrev pub gotoEnds : Image → Glided → GotoMove
-gotoEnds i g = record { answer = goneTo (heldIn i (g .stand .node)) (g .steps + 1); node = placeNumber (g .stand .node) }
+gotoEnds i g =
+    record { answer = goneTo (heldIn i (g .stand .node)) (g .steps + 1); node = placeNumber (g .stand .node) }
 
 -- from node k: no child, several, or through the only one
 unfoldable pub gotoBy : Image → ℕ → GotoMove
@@ -107,4 +113,5 @@ gotoBy i k =
     let len = bitsFor (entries i) in
     let s = standIn i k in
     cond (eqb (countFrom i s) 0) (record { answer = gone.Ok 0; node = k })
-    (cond (ltb 1 (countFrom i s)) (record { answer = gone.Err 0; node = k }) (gotoEnds i (glidedFrom (i .labels) (i .values) b len (onlyKid b len s))))
+    (cond (ltb 1 (countFrom i s)) (record { answer = gone.Err 0; node = k })
+    (gotoEnds i (glidedFrom (i .labels) (i .values) b len (onlyKid b len s))))

@@ -1,5 +1,7 @@
--- Reading a place (01, module 7): "Value, prefix (written to a lent buffer) and prefix length read the place; at the root no value, empty, 0.
--- Resume refuses a bad place." Each says 6 of an image that no map has, then 7 of a number that is no node's, and `prefix` then 8 of a shorter buffer.
+-- Reading a place (01, module 7): "Value, prefix (written to a lent buffer) and prefix length read the place; at the
+-- root no value, empty, 0.
+-- Resume refuses a bad place." Each says 6 of an image that no map has, then 7 of a number that is no node's, and
+-- `prefix` then 8 of a shorter buffer.
 -- Assumes nothing.
 use Prim.Native.Nat.{ℕ}
 use mathlib.Core.Bool.{cond}

@@ -1,7 +1,9 @@
-// Moving a place: the image and the number are tested, and then the move is made on numbers. A refusal leaves the place where it is.
+// Moving a place: the image and the number are tested, and then the move is made on numbers. A refusal leaves the place
+// where it is.
 ghost use mathlib.Core.Path.{_≡_};
 ghost use Rattle.image.specs.Meaning.{lentImage};
-ghost use Rattle.places.specs.Incremental.{placeAt, saidQueried, querySays, QueryPromise, FollowPromise, GotoPromise};
+ghost use Rattle.places.specs.Incremental.{placeAt, saidQueried, querySays, QueryPromise, FollowPromise};
+ghost use Rattle.places.specs.Incremental.{GotoPromise};
 use crate::answers::FollowMove;
 use crate::answers::Followed;
 use crate::answers::Gone;
@@ -44,7 +46,10 @@ pub fn query_until_at(
     query: &[u8],
 ) -> FollowMove
     ensures { λ r.
-        ⌜ FollowPromise (lentImage labels values words) (now (query .entry)) (placeAt node) (r .answer) (placeAt (r .node)) ⌝ }
+        ⌜
+        FollowPromise (lentImage labels values words) (now (query .entry))
+        (placeAt node) (r .answer) (placeAt (r .node))
+        ⌝ }
 {
     if !is_image(labels, values, words) {
         return FollowMove {
@@ -117,7 +122,8 @@ pub fn query_until(
     m.answer
 }
 
-// Moves a place to the longest common prefix of the longer keys that begin with its path; where there are none it stays.
+// Moves a place to the longest common prefix of the longer keys that begin with its path; where there are none it
+// stays.
 pub fn goto_longest_prefix(labels: &[u16], values: &[u32], words: &[u64], place: &mut Place) -> Gone
     ensures { λ r. ⌜ GotoPromise (lentImage labels values words) (now (place .entry)) r (now (place .exit)) ⌝ }
 {

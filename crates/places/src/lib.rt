@@ -1,5 +1,7 @@
-// Incremental search, after `src/inc_search.rs`: a place is a node of a lent image, and is not tied to one image. Its calls answer NotAnImage (6) first,
-// then BadPlace (7) of a number that is no node's, and KeyRoom (8) of a buffer that is too short; a refusal leaves the place where it is.
+// Incremental search, after `src/inc_search.rs`: a place is a node of a lent image, and is not tied to one image. Its
+// calls answer NotAnImage (6) first,
+// then BadPlace (7) of a number that is no node's, and KeyRoom (8) of a buffer that is too short; a refusal leaves the
+// place where it is.
 pub mod answers;
 pub mod calls;
 mod moves;

@@ -1,4 +1,5 @@
-// Moving from a node by labels, on numbers, total: each answers for any slices and any number. The calls on a place test both first.
+// Moving from a node by labels, on numbers, total: each answers for any slices and any number. The calls on a place
+// test both first.
 ghost use mathlib.Core.Path.{_≡_};
 ghost use Rattle.image.specs.Meaning.{lentImage};
 ghost use Rattle.places.specs.Moves.{placeNumber, answerBy, queryBy, followBy, gotoBy};
@@ -94,7 +95,8 @@ pub fn follow(labels: &[u16], values: &[u32], words: &[u64], node: u32, query: &
     }
 }
 
-// To where the longer keys that begin with a node's path part, or one of them ends. A value at the node itself does not hold it.
+// To where the longer keys that begin with a node's path part, or one of them ends. A value at the node itself does not
+// hold it.
 pub fn go_down(labels: &[u16], values: &[u32], words: &[u64], node: u32) -> GotoMove
     ensures { λ r. ⌜ r ≡ gotoBy (lentImage labels values words) node ⌝ }
 {
@@ -118,7 +120,8 @@ pub fn go_down(labels: &[u16], values: &[u32], words: &[u64], node: u32) -> Goto
             node,
         };
     }
-    // the zero behind an only child has as many zeros before it as the node's number says, and as many ones as the child's
+    // the zero behind an only child has as many zeros before it as the node's number says, and as many ones as the
+    // child's
     let c = kid_at(words, len, from, from + first, first);
     let g = glide(labels, values, words, len, c);
     let distance = g.steps + 1;

@@ -2,7 +2,8 @@
 ghost use mathlib.Core.Path.{_≡_};
 ghost use Rattle.image.specs.Meaning.{lentImage};
 ghost use Rattle.climbs.specs.Spelling.{saidSpelled};
-ghost use Rattle.places.specs.Places.{saidResumed, saidValued, saidMeasured, resumeSays, valueSays, prefixLenSays, prefixSays, prefixOut};
+ghost use Rattle.places.specs.Places.{saidResumed, saidValued, saidMeasured, resumeSays, valueSays};
+ghost use Rattle.places.specs.Places.{prefixLenSays, prefixSays, prefixOut};
 use crate::answers::Measured;
 use crate::answers::Place;
 use crate::answers::Resumed;
@@ -68,8 +69,10 @@ pub fn prefix(
     place: Place,
     out: &mut [u8],
 ) -> Spelled
-    ensures answer { λ r. ⌜ saidSpelled r ≡ prefixSays (lentImage labels values words) (place .node) (now (out .entry)) ⌝ }
-    ensures written { λ _. ⌜ now (out .exit) ≡ prefixOut (lentImage labels values words) (place .node) (now (out .entry)) ⌝ }
+    ensures answer { λ r.
+        ⌜ saidSpelled r ≡ prefixSays (lentImage labels values words) (place .node) (now (out .entry)) ⌝ }
+    ensures written { λ _.
+        ⌜ now (out .exit) ≡ prefixOut (lentImage labels values words) (place .node) (now (out .entry)) ⌝ }
 {
     let node = place.node;
     if !is_image(labels, values, words) {

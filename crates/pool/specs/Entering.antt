@@ -1,4 +1,5 @@
--- Records that are entered: "gives missing labels records n+1, n+2 and so on in key order, linked among siblings in label order" (01).
+-- Records that are entered: "gives missing labels records n+1, n+2 and so on in key order, linked among siblings in
+-- label order" (01).
 --
 --     entered         one record more
 --     enteredAll      a record for each byte, each below the one before; lastEntered is the last
@@ -12,7 +13,8 @@ use lib.ListN.{length}
 use Rattle.keymap.specs.Limits.{byteLimit}
 use Rattle.keymap.specs.Label.{mark}
 use Rattle.keymap.specs.Key.{Key, Bytes}
-use Rattle.records.specs.Words.{Pool, recordWords, entry, value, firstChild, nextSibling, parent, lastRecord, usedCount, InUse, Node, nextRecord, taken, capacity}
+use Rattle.records.specs.Words.{Pool, recordWords, entry, value, firstChild, nextSibling, parent, lastRecord, usedCount}
+use Rattle.records.specs.Words.{InUse, Node, nextRecord, taken, capacity}
 use Rattle.records.specs.Sound.{Children}
 use Rattle.records.specs.Spelling.{Stops}
 use Rattle.pool.specs.declared.siblings.Slot.{Slot}

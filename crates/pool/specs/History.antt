@@ -1,4 +1,5 @@
--- Any list of calls on one pool, refused ones among them: what each answers and what is left, by the pool's words; and the same by the map of the keys
+-- Any list of calls on one pool, refused ones among them: what each answers and what is left, by the pool's words; and
+-- the same by the map of the keys
 -- that were accepted since the last reset, each with its last value, and by the capacity.
 --
 --     PoolCall              a reset, a push or a use count
@@ -57,11 +58,13 @@ unfoldable pub runPool : Pool → List PoolCall → Pool
 runPool p [] = p
 runPool p (c ∷ cs) = runPool (callPool p c) cs
 
--- where there is room for `most` records; a push is refused for room exactly when the distinct nonempty prefixes, its own counted in, would exceed them
+-- where there is room for `most` records; a push is refused for room exactly when the distinct nonempty prefixes, its
+-- own counted in, would exceed them
 abbrev pub mapSays : ℕ → Map → PoolCall → List ℕ
 mapSays most m reset = 0 ∷ []
 mapSays most m (push k v) =
-    cond (eqb (length k) 0) (refuses Refusal.EmptyKey) (cond (leb (length (prefixes (insert k v m))) most) (0 ∷ []) (refuses Refusal.NoRoom))
+    cond (eqb (length k) 0) (refuses Refusal.EmptyKey)
+    (cond (leb (length (prefixes (insert k v m))) most) (0 ∷ []) (refuses Refusal.NoRoom))
 mapSays most m useCount = 0 ∷ length (prefixes m) ∷ []
 
 abbrev pub callMap : ℕ → Map → PoolCall → Map

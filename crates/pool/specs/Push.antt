@@ -26,7 +26,8 @@ use Rattle.pool.specs.Entering.{enteredAll, lastEntered}
 
 -- from the record on that the key reaches
 unfoldable pub insertedAt : Pool → Key → ℕ → Reach → Pool
-insertedAt p key v r = marked (enteredAll p (r .at) (drop (r .depth) key)) (lastEntered p (r .at) (drop (r .depth) key)) v
+insertedAt p key v r =
+    marked (enteredAll p (r .at) (drop (r .depth) key)) (lastEntered p (r .at) (drop (r .depth) key)) v
 
 unfoldable pub inserted : Pool → Key → ℕ → Pool
 inserted p key v = insertedAt p key v (reachOf p key)

@@ -1,5 +1,6 @@
 // A pool of records in a lent slice of u32: reset it, push keys with their values, ask how many records are in use.
-// Of a pool of L words at most L / 5 - 1 records can be taken, and never more than 4,096; record 0 is the root and is not counted.
+// Of a pool of L words at most L / 5 - 1 records can be taken, and never more than 4,096; record 0 is the root and is
+// not counted.
 // A push that lacks room finds that out before it writes, and every refusal leaves the pool as it was.
 // After `src/map/trie_builder.rs` and `src/internal_data_structure/naive_trie/naive_trie_impl.rs`.
 pub mod answers;

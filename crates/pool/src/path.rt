@@ -53,7 +53,11 @@ fn enter(pool: &mut [u32], i: u32, b: u32) -> u32
 // A record for each byte of the key from depth on, each below the one before; the last of them.
 pub fn enter_all(pool: &mut [u32], key: &[u8], at: u32, depth: usize) -> u32
     requires { ⌜ CanEnterAll (now pool) at (drop depth (now key)) × (depth ≤ length (now key)) ⌝ }
-    ensures { λ r. ⌜ (r ≡ lastEntered (now (pool .entry)) at (drop depth (now (key .entry)))) × (now (pool .exit) ≡ enteredAll (now (pool .entry)) at (drop depth (now (key .entry)))) ⌝ }
+    ensures { λ r.
+        ⌜
+        (r ≡ lastEntered (now (pool .entry)) at (drop depth (now (key .entry))))
+        × (now (pool .exit) ≡ enteredAll (now (pool .entry)) at (drop depth (now (key .entry))))
+        ⌝ }
 {
     let mut i = at;
     let mut d = depth;

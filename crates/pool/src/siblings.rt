@@ -1,4 +1,5 @@
-// The children of a record, which their chain names with labels rising. Total: the search takes no more steps than there are records.
+// The children of a record, which their chain names with labels rising. Total: the search takes no more steps than
+// there are records.
 use records::words::first_child;
 use records::words::label_of;
 use records::words::last_record;

@@ -1,4 +1,5 @@
--- The map that a sound pool holds, also one that was not reset here: "the keys its marked records spell, with their values" (01).
+-- The map that a sound pool holds, also one that was not reset here: "the keys its marked records spell, with their
+-- values" (01).
 --
 --     forestBelow   what hangs below a record: its children with what hangs below them
 --     poolForest    the forest that the records represent
@@ -19,7 +20,8 @@ use Rattle.records.specs.Spelling.{Spells}
 -- the siblings from record x on, within f steps, each with what `below` has under it
 unfoldable pub siblingsFrom : Pool → (ℕ → Forest) → (f x : ℕ) → Forest
 siblingsFrom p below zero x = empty
-siblingsFrom p below (suc f) x = cond (eqb x 0) empty (node (label p x) (recordValue p x) (below x) (siblingsFrom p below f (nextSibling p x)))
+siblingsFrom p below (suc f) x =
+    cond (eqb x 0) empty (node (label p x) (recordValue p x) (below x) (siblingsFrom p below f (nextSibling p x)))
 
 -- within f levels
 unfoldable pub forestBelow : ℕ → Pool → ℕ → Forest

@@ -1,4 +1,5 @@
--- A sound pool (01, "Sound means: .."), sentence by sentence. The n of 01 is `lastRecord`, its "record 1 to n" is `InUse`.
+-- A sound pool (01, "Sound means: .."), sentence by sentence. The n of 01 is `lastRecord`, its "record 1 to n" is
+-- `InUse`.
 --
 --     Among         a number stands in a list
 --     Chain         the numbers that a step leads to, up to the 0 that ends them
@@ -13,7 +14,8 @@ use mathlib.Core.List.{List, [], _∷_}
 use lib.ListN.{length}
 use Rattle.keymap.specs.Limits.{byteLimit}
 use Rattle.keymap.specs.Label.{mark}
-use Rattle.records.specs.Words.{Pool, recordWords, entry, label, value, firstChild, nextSibling, parent, lastRecord, InUse, Node, capacity}
+use Rattle.records.specs.Words.{Pool, recordWords, entry, label, value, firstChild, nextSibling, parent}
+use Rattle.records.specs.Words.{lastRecord, InUse, Node, capacity}
 
 abbrev pub Among : ℕ → List ℕ → Type 0
 Among c [] = ⊥
@@ -41,7 +43,8 @@ pub record Fits (p : Pool) (c : ℕ) : Type 0 where
   -- "a record without value has value word 0 and a child"
   pub unvalued : entry p c < mark → (value p c ≡ 0) × (0 < firstChild p c)
 
--- "its first child and the sibling chain from it name exactly the records whose parent it is, each once, labels strictly rising":
+-- "its first child and the sibling chain from it name exactly the records whose parent it is, each once, labels
+-- strictly rising":
 -- labels that strictly rise name nothing twice
 pub record Children (p : Pool) (c : ℕ) : Type 0 where
   pub kids : List ℕ

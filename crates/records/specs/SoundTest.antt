@@ -1,5 +1,7 @@
--- The test of soundness that the code makes. It goes once through the records: each is tested by its own words, then its chain of children is followed,
--- and every record met is counted off, so that chains that loop, cross or leave a record out are found without any memory of them.
+-- The test of soundness that the code makes. It goes once through the records: each is tested by its own words, then
+-- its chain of children is followed,
+-- and every record met is counted off, so that chains that loop, cross or leave a record out are found without any
+-- memory of them.
 --
 --     wordsFit      five words can be those of a record in use
 --     chainRest     how many records are left to be met after a chain
@@ -14,7 +16,8 @@ use Rattle.keymap.specs.Limits.{byteLimit}
 use Rattle.keymap.specs.Label.{mark}
 use Rattle.records.specs.declared.soundness.Rest.{Rest}
 use Rattle.records.specs.declared.soundness.Rest.the-variants.{Left, Broken}
-use Rattle.records.specs.Words.{Pool, recordWords, entry, label, value, firstChild, nextSibling, parent, lastRecord, usedCount, capacity}
+use Rattle.records.specs.Words.{Pool, recordWords, entry, label, value, firstChild, nextSibling, parent}
+use Rattle.records.specs.Words.{lastRecord, usedCount, capacity}
 
 -- shut, where `_&&_` is not: proofs take a test apart by its laws
 unfoldable pub both : Bool → Bool → Bool
@@ -24,7 +27,8 @@ both a b = a && b
 unfoldable pub wordsFit : (n c e v f x q : ℕ) → Bool
 wordsFit n c e v f x q =
     cond (eqb c 0) true
-    (both (ltb e (byteLimit + mark)) (both (leb f n) (both (leb x n) (both (ltb q c) (cond (ltb e mark) (both (eqb v 0) (ltb 0 f)) true)))))
+    (both (ltb e (byteLimit + mark))
+    (both (leb f n) (both (leb x n) (both (ltb q c) (cond (ltb e mark) (both (eqb v 0) (ltb 0 f)) true)))))
 
 unfoldable pub recordFits : Pool → (n c : ℕ) → Bool
 recordFits p n c = wordsFit n c (entry p c) (value p c) (firstChild p c) (nextSibling p c) (parent p c)
@@ -37,7 +41,8 @@ isChild p n c x l = both (leb x n) (both (eqb (parent p x) c) (leb l (label p x)
 unfoldable pub chainRest : Pool → (n c left x l : ℕ) → Rest
 chainRest p n c zero x l = cond (eqb x 0) (Left zero) Broken
 chainRest p n c (suc k) x l =
-    cond (eqb x 0) (Left (suc k)) (cond (isChild p n c x l) (chainRest p n c k (nextSibling p x) (label p x + 1)) Broken)
+    cond (eqb x 0) (Left (suc k))
+    (cond (isChild p n c x l) (chainRest p n c k (nextSibling p x) (label p x + 1)) Broken)
 
 -- after record c and its chain
 unfoldable pub recordRest : Pool → (n c : ℕ) → Rest → Rest

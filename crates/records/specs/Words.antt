@@ -1,4 +1,5 @@
--- The words of a pool (01, "The pool"): five to the record, record 0 the root. Words beyond the last whole record are surplus.
+-- The words of a pool (01, "The pool"): five to the record, record 0 the root. Words beyond the last whole record are
+-- surplus.
 --
 --     word   of a record in use                 of the root
 --     0      label, plus 256 if it has a value  the number n of other records in use

@@ -1,4 +1,5 @@
-// Is this slice a sound pool? One pass over the records and their chains, with no memory of its own: each record met in a chain is counted off,
+// Is this slice a sound pool? One pass over the records and their chains, with no memory of its own: each record met in
+// a chain is counted off,
 // so the pass ends on any words, also where chains loop or numbers lie beyond the pool.
 use crate::words::BYTE_LIMIT;
 use crate::words::MARK;
@@ -19,7 +20,8 @@ ghost use Prim.Native.Nat.{suc, _≤_};
 ghost use Rattle.keymap.specs.Limits.{mostRecords};
 ghost use Rattle.records.specs.Words.{firstChild};
 ghost use Rattle.records.specs.Sound.{Sound};
-ghost use Rattle.records.specs.SoundTest.{wordsFit, recordFits, isChild, chainRest, recordRest, passRest, noneLeft, rootFits, soundTest};
+ghost use Rattle.records.specs.SoundTest.{wordsFit, recordFits, isChild, chainRest, recordRest, passRest};
+ghost use Rattle.records.specs.SoundTest.{noneLeft, rootFits, soundTest};
 
 // How many records are left to be met, or that a record or a chain is broken.
 enum Rest {

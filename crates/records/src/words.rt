@@ -1,6 +1,8 @@
-// The words of a pool: what each one of a record means, read at any record number. A record beyond the pool's end reads as 0 throughout.
+// The words of a pool: what each one of a record means, read at any record number. A record beyond the pool's end reads
+// as 0 throughout.
 ghost use mathlib.Core.Path.{_≡_};
-ghost use Rattle.records.specs.Words.{word, entry, label, value, firstChild, nextSibling, parent, lastRecord, usedCount, capacity};
+ghost use Rattle.records.specs.Words.{word, entry, label, value, firstChild, nextSibling, parent, lastRecord};
+ghost use Rattle.records.specs.Words.{usedCount, capacity};
 
 pub const RECORD_WORDS: usize = 5;
 

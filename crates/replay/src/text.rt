@@ -1,4 +1,5 @@
-// The lines of a list and what stands in them: a letter, a space, eight hexadecimal digits, a space, and two digits for each byte.
+// The lines of a list and what stands in them: a letter, a space, eight hexadecimal digits, a space, and two digits for
+// each byte.
 use crate::counts::of_bytes;
 ghost use mathlib.Core.Path.{_≡_};
 ghost use Prim.Native.Nat.{_-_, _≤_};
@@ -96,7 +97,8 @@ pub fn bytes(line: &[u8], out: &mut [u8]) -> usize
     count
 }
 
-// The key or query of a case: the line's bytes, or, for the letters that say so, as many of what stands in `out` as the number says.
+// The key or query of a case: the line's bytes, or, for the letters that say so, as many of what stands in `out` as the
+// number says.
 pub fn key(letter: u8, n: u32, line: &[u8], out: &mut [u8]) -> usize
     ensures { λ r. ⌜ Counts r (now (out .exit)) ⌝ }
 {

@@ -4,6 +4,7 @@ use mathlib.Core.Path.{_≡_, refl}
 use Prim.Native.Nat.{ℕ}
 use mathlib.Core.List.{List, [], _∷_, map}
 use Rattle.keymap.specs.Key.{Key, compareKeys, beginsWith, extends, commonPrefix}
+use Rattle.keymap.specs.Buffers.{over}
 use Rattle.keymap.specs.Map.{lookup}
 use Rattle.keymap.specs.Queries.{keep, beginning, longer, isPrefixIn, commonOfAll, longestPrefixIn, commonPrefixIn}
 use Rattle.keymap.specs.Bits.{bit, table, unpack}
@@ -72,5 +73,5 @@ lines =
     ∷ []
 
 pub worked-searches : map (λ (l : Line). answer (l .lent) (l .ask)) lines ≡ map (λ (l : Line). l .says) lines
-unfolding answer emptyMap mapA damaged lines compareKeys beginsWith extends commonPrefix lookup keep beginning longer isPrefixIn commonOfAll longestPrefixIn commonPrefixIn bit table unpack degreesFrom listForest listTree width takeTrees dropTrees claim rebuild rowsFrom degreesIn rowsIn decode imageMap entryFits labelsRise oneFits childlessFits bitFits passesFrom lengthsFit endsFit imageTest exactSays isPrefixSays commonSays commonPart longestSays longestOut
+unfolding answer emptyMap mapA damaged lines compareKeys beginsWith extends commonPrefix lookup keep beginning longer isPrefixIn commonOfAll longestPrefixIn commonPrefixIn bit table unpack degreesFrom listForest listTree width takeTrees dropTrees claim rebuild rowsFrom degreesIn rowsIn decode imageMap entryFits labelsRise oneFits childlessFits bitFits passesFrom lengthsFit endsFit imageTest exactSays isPrefixSays commonSays commonPart longestSays longestOut over
 worked-searches = refl

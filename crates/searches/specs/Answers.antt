@@ -1,4 +1,5 @@
--- The answers of the searches in 01's numbers: a refusal is its number alone, every other answer begins with 0 and goes on with what it tells.
+-- The answers of the searches in 01's numbers: a refusal is its number alone, every other answer begins with 0 and goes
+-- on with what it tells.
 -- Assumes nothing.
 use Prim.Native.Nat.{ℕ}
 use mathlib.Core.List.{List, [], _∷_}

@@ -1,5 +1,7 @@
--- Common prefixes (01, module 6): "given a query and a length already seen, the shortest key longer than that and a prefix of the query.
--- The first call answers its length and value; by the second the match is handed back as that leading part of the query itself.
+-- Common prefixes (01, module 6): "given a query and a length already seen, the shortest key longer than that and a
+-- prefix of the query.
+-- The first call answers its length and value; by the second the match is handed back as that leading part of the query
+-- itself.
 -- A seen length at or past the query's end gives no match."
 --
 --     shortestFrom    on any slices: the first node on the walk, past what was seen, that has a value, by R-7's rule
@@ -39,7 +41,8 @@ unfoldable pub shortestFrom : Image → ℕ → Key → ℕ → Option ℕ → O
 shortestFrom i seen [] depth at = none
 shortestFrom i seen (a ∷ q) depth at =
     let next = stepBy (i .labels) (bit (i .words)) (bitsFor (entries i)) a at in
-    orFurther (depth + 1) (unlessSeen seen (depth + 1) (valueAtEnd (i .labels) (i .values) next)) (shortestFrom i seen q (depth + 1) next)
+    orFurther (depth + 1) (unlessSeen seen (depth + 1) (valueAtEnd (i .labels) (i .values) next))
+    (shortestFrom i seen q (depth + 1) next)
 
 abbrev pub matchOf : Option (ℕ × ℕ) → Common
 matchOf none = NoMatch

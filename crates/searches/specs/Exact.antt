@@ -1,4 +1,5 @@
--- Exact matches (01, module 5): `exact_match`, "the value, or no match; the empty query never matches"; the call that sets the value of a present key,
+-- Exact matches (01, module 5): `exact_match`, "the value, or no match; the empty query never matches"; the call that
+-- sets the value of a present key,
 -- which "answers the old value and writes that one entry; if absent, no match, nothing written"; and `is_prefix`.
 --
 --     keyedIn       the node and the value of a key, on any slices by R-7's rule

@@ -1,4 +1,5 @@
--- What two images must share to answer a query alike (02, R-7): "Two images with the same n and bits, agreeing on the entries of the siblings met and on the
+-- What two images must share to answer a query alike (02, R-7): "Two images with the same n and bits, agreeing on the
+-- entries of the siblings met and on the
 -- value found, give the same answer."
 --
 --     counted       of a run of numbers those that count as children of a node
@@ -49,7 +50,8 @@ met i q = metFrom (i .labels) (bit (i .words)) (bitsFor (entries i)) q (some 1)
 unfoldable pub lookedAt : List ℕ → ℕ → ℕ → ℕ → ℕ → List ℕ
 lookedAt ls k zero m a = []
 lookedAt ls k (suc left) m a =
-    cond (counts (length ls) k m) (m ∷ cond (isChildBy ls k m a) [] (lookedAt ls k left (m + 1) a)) (lookedAt ls k left (m + 1) a)
+    cond (counts (length ls) k m) (m ∷ cond (isChildBy ls k m a) [] (lookedAt ls k left (m + 1) a))
+    (lookedAt ls k left (m + 1) a)
 
 abbrev pub lookedAmong : List ℕ → ℕ → Children → ℕ → List ℕ
 lookedAmong ls k NoNode a = []

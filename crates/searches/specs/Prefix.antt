@@ -1,4 +1,5 @@
--- `longest_prefix` (01, module 5): "the longest common prefix of all keys beginning with the query; no match if there are none or it is empty.
+-- `longest_prefix` (01, module 5): "the longest common prefix of all keys beginning with the query; no match if there
+-- are none or it is empty.
 -- It is written to a lent buffer and its length answered; no match writes nothing."
 -- Assumes nothing.
 use Prim.Native.Nat.{ℕ}

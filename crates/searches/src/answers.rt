@@ -3,7 +3,8 @@
 // What a key has: `exact_match` and `exact_match_untested`, and `set_value` with what it had before.
 pub enum Looked {
     Value(u32),
-    // The query is no key of the map, or, of an image that is not tested, leads to no value; the empty query never does.
+    // The query is no key of the map, or, of an image that is not tested, leads to no value; the empty query never
+    // does.
     NoMatch,
     // The lent image is no map's image, or, where it is not tested, its lengths do not fit.
     NotAnImage,

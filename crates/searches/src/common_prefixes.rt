@@ -1,4 +1,5 @@
-// The keys that are prefixes of a query, after `src/iter/prefix_iter.rs`: one call for each, with the length that was seen already.
+// The keys that are prefixes of a query, after `src/iter/prefix_iter.rs`: one call for each, with the length that was
+// seen already.
 // A seen length at or past the query's end gives no match, and nothing is added to it.
 ghost use mathlib.Core.Path.{_≡_};
 ghost use mathlib.Core.Option.{some};
@@ -6,7 +7,8 @@ ghost use Rattle.image.specs.Meaning.{lentImage};
 ghost use Rattle.walks.specs.Rule.{valueOfNode};
 ghost use Rattle.walks.specs.Stands.{heldOf};
 ghost use Rattle.searches.specs.Answers.{saidCommon};
-ghost use Rattle.searches.specs.CommonPrefixes.{unlessSeen, shortestFrom, matchOf, commonSays, partLength, commonPart};
+ghost use Rattle.searches.specs.CommonPrefixes.{unlessSeen, shortestFrom, matchOf, commonSays, partLength};
+ghost use Rattle.searches.specs.CommonPrefixes.{commonPart};
 use crate::answers::Common;
 use image::is_image;
 use walks::entries::Held;
@@ -17,7 +19,8 @@ use walks::stands::stand_at;
 
 // The value of a node at a depth, unless that much was seen.
 fn unseen_value(labels: &[u16], values: &[u32], node: usize, depth: usize, seen: usize) -> Held
-    ensures { λ r. ⌜ r ≡ heldOf (unlessSeen seen depth (valueOfNode (now (labels .entry)) (now (values .entry)) node)) ⌝ }
+    ensures { λ r.
+        ⌜ r ≡ heldOf (unlessSeen seen depth (valueOfNode (now (labels .entry)) (now (values .entry)) node)) ⌝ }
 {
     if depth <= seen {
         return Held::NoValue;

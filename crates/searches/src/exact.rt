@@ -1,4 +1,5 @@
-// The value of a key, after `src/map/trie.rs`: `exact_match`; `set_value`, which is its `exact_match_mut`; and `is_prefix`.
+// The value of a key, after `src/map/trie.rs`: `exact_match`; `set_value`, which is its `exact_match_mut`; and
+// `is_prefix`.
 // The image is tested before anything else, so a refused image answers NotAnImage for the empty query too.
 ghost use mathlib.Core.Path.{_≡_};
 ghost use Rattle.image.specs.Meaning.{lentImage};

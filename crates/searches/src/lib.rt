@@ -1,5 +1,7 @@
-// The searches of `src/map/trie.rs` and its iterator over common prefixes, on an image in three lent slices: labels, values, words.
-// Each call but one tests the image first and answers NotAnImage (6) where no map has it; then it speaks of that map. `exact_match_untested` tests the lengths alone.
+// The searches of `src/map/trie.rs` and its iterator over common prefixes, on an image in three lent slices: labels,
+// values, words.
+// Each call but one tests the image first and answers NotAnImage (6) where no map has it; then it speaks of that map.
+// `exact_match_untested` tests the lengths alone.
 // `longest_prefix`, which writes, answers KeyRoom (8) last. A refusal changes no lent memory.
 pub mod answers;
 mod common_prefixes;

@@ -10,7 +10,8 @@ use image::is_image;
 use walks::glide::glide;
 use walks::moves::Reached;
 
-// The longest common prefix of all keys that begin with a query, its own among them, written to the front of a buffer. The buffer is compared with its length.
+// The longest common prefix of all keys that begin with a query, its own among them, written to the front of a buffer.
+// The buffer is compared with its length.
 pub fn longest_prefix(
     labels: &[u16],
     values: &[u32],
@@ -18,8 +19,10 @@ pub fn longest_prefix(
     query: &[u8],
     out: &mut [u8],
 ) -> Longest
-    ensures answer { λ r. ⌜ saidLongest r ≡ longestSays (lentImage labels values words) (now (query .entry)) (now (out .entry)) ⌝ }
-    ensures written { λ _. ⌜ now (out .exit) ≡ longestOut (lentImage labels values words) (now (query .entry)) (now (out .entry)) ⌝ }
+    ensures answer { λ r.
+        ⌜ saidLongest r ≡ longestSays (lentImage labels values words) (now (query .entry)) (now (out .entry)) ⌝ }
+    ensures written { λ _.
+        ⌜ now (out .exit) ≡ longestOut (lentImage labels values words) (now (query .entry)) (now (out .entry)) ⌝ }
 {
     if !is_image(labels, values, words) {
         return Longest::NotAnImage;

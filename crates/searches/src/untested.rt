@@ -1,4 +1,5 @@
-// The lookup of 02, R-7: an exact match that does not read the catalogue. Of the image only the lengths are tested, and any bits and entries are read by the rule of `walks`;
+// The lookup of 02, R-7: an exact match that does not read the catalogue. Of the image only the lengths are tested, and
+// any bits and entries are read by the rule of `walks`;
 // on an image that some map has it answers what `exact_match` answers.
 ghost use mathlib.Core.Path.{_≡_};
 ghost use Rattle.image.specs.Meaning.{lentImage};

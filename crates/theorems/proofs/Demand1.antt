@@ -10,7 +10,7 @@ use native.Mathlib.Omega.{arith}
 use mathlib.Core.Bool.{Bool, true, false, cond, true≢false}
 use mathlib.Core.List.{List, [], _∷_, _++_}
 use mathlib.Core.Option.{Option, none, some}
-use lib.ListN.{length, take, drop}
+use lib.ListN.{length, take}
 use lib.Dec.{leb, ltb}
 use borrow.Author.Tests.{ne-eqb}
 use Rattle.keymap.specs.Key.{Key}
@@ -146,7 +146,7 @@ choice-accepted false x y s t = t
 
 written-kept : (k out : List ℕ) → accepted (saysWritten k out) ≡ false → writtenTo k out ≡ out
 written-kept k out h =
-    kept (leb (length k) (length out)) (0 ∷ length k ∷ []) (refuses Refusal.KeyRoom) (k ++ drop (length k) out) out (never (0 ∷ length k ∷ []) (k ++ drop (length k) out) out refl) h
+    kept (leb (length k) (length out)) (0 ∷ length k ∷ []) (refuses Refusal.KeyRoom) (over k out) out (never (0 ∷ length k ∷ []) (over k out) out refl) h
 
 -- the tests that come first on an image, on a place and on a cursor
 on-image : {A : Type 0} (i : Image) (says : List ℕ) (written lent : A) → (accepted says ≡ false → written ≡ lent) → accepted (onImage i says) ≡ false → cond (imageTest i) written lent ≡ lent

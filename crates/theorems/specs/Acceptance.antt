@@ -1,4 +1,5 @@
--- When an image is accepted (01, "The image"): "An image is accepted exactly if some map with nonempty keys has it. Equivalently, to be proved: ..".
+-- When an image is accepted (01, "The image"): "An image is accepted exactly if some map with nonempty keys has it.
+-- Equivalently, to be proved: ..".
 -- Assumes nothing.
 use mathlib.Core.Path.{_≡_}
 use mathlib.Core.Logic.{_↔_}

@@ -20,7 +20,8 @@ poolAfter p cs = runPool (resetPool p) (poolCalls cs)
 abbrev pub mapAfter : Pool → List Call → Map
 mapAfter p cs = mapRun (capacity p) [] (poolCalls cs)
 
--- the leading parts of the buffers that a build with n nodes leaves: n label entries, n values and the words of 2n + 3 bits
+-- the leading parts of the buffers that a build with n nodes leaves: n label entries, n values and the words of 2n + 3
+-- bits
 unfoldable pub builtImage : ℕ → Pool → (labels values words scratch : List ℕ) → Image
 builtImage n p ls vs ws qs = record {
   labels = take n (buildLabels p ls vs ws qs);

@@ -1,5 +1,7 @@
--- Demand 1: "Any bytes, pool, image or place may be handed to any public call." That each call ends and stays inside its slices is what the check proves of every function,
--- and no public function asks anything of its caller. Here stands what 01 says of refusals: what is damaged is refused by its number, and "A refusal changes no lent memory".
+-- Demand 1: "Any bytes, pool, image or place may be handed to any public call." That each call ends and stays inside
+-- its slices is what the check proves of every function,
+-- and no public function asks anything of its caller. Here stands what 01 says of refusals: what is damaged is refused
+-- by its number, and "A refusal changes no lent memory".
 --
 --     Damaged          each call on three slices that no map has
 --     TooSmall         each call on a pool of fewer than 5 words
@@ -75,30 +77,39 @@ pub record Unsound (p : Pool) : Type 0 where
   pub push : (k : Key) → pushSays p k ≡ refuses Refusal.NotAPool
   pub build : (ls vs ws qs : List ℕ) → buildSays p ls vs ws qs ≡ refuses Refusal.NotAPool
 
--- of a sound pool the other refusals are given exactly when 01 says: "pushed key has length 0"; "records in use plus the key's prefixes not yet present exceed capacity";
+-- of a sound pool the other refusals are given exactly when 01 says: "pushed key has length 0"; "records in use plus
+-- the key's prefixes not yet present exceed capacity";
 -- "a build buffer is shorter than needed"
 pub record SoundPool (p : Pool) : Type 0 where
   pub reset : resetSays p ≡ 0 ∷ []
   pub use-count : useCountSays p ≡ 0 ∷ usedCount p ∷ []
   pub push-empty : pushSays p [] ≡ refuses Refusal.EmptyKey
-  pub push : (k : Key) → ¬ (k ≡ []) → pushSays p k ≡ cond (leb (usedCount p + missing k (poolMap p)) (capacity p)) (0 ∷ []) (refuses Refusal.NoRoom)
-  pub build : (ls vs ws qs : List ℕ) → buildSays p ls vs ws qs ≡ cond (buffersFit (usedCount p) (length ls) (length vs) (length ws) (length qs)) (0 ∷ usedCount p ∷ []) (refuses Refusal.OutTooSmall)
+  pub push : (k : Key) → ¬ (k ≡ [])
+      → pushSays p k ≡ cond (leb (usedCount p + missing k (poolMap p)) (capacity p)) (0 ∷ []) (refuses Refusal.NoRoom)
+  pub build : (ls vs ws qs : List ℕ)
+      → buildSays p ls vs ws qs
+      ≡ cond (buffersFit (usedCount p) (length ls) (length vs) (length ws) (length qs)) (0 ∷ usedCount p ∷ [])
+      (refuses Refusal.OutTooSmall)
 
--- "Each returns its number and leaves all lent memory, places and cursors as at entry": the calls that may write or move, each with what it leaves.
+-- "Each returns its number and leaves all lent memory, places and cursors as at entry": the calls that may write or
+-- move, each with what it leaves.
 -- "the second hands back the part, empty whenever the first refuses or has no match"
 pub record RefusalKeeps : Type 0 where
   pub reset : (p : Pool) → accepted (resetSays p) ≡ false → resetPool p ≡ p
   pub push : (p : Pool) (k : Key) (v : ℕ) → accepted (pushSays p k) ≡ false → pushPool p k v ≡ p
   pub build : (p : Pool) (ls vs ws qs : List ℕ) → accepted (buildSays p ls vs ws qs) ≡ false
-      → (buildLabels p ls vs ws qs ≡ ls) × (buildValues p ls vs ws qs ≡ vs) × (buildWords p ls vs ws qs ≡ ws) × (buildScratch p ls vs ws qs ≡ qs)
+      → (buildLabels p ls vs ws qs ≡ ls) × (buildValues p ls vs ws qs ≡ vs) × (buildWords p ls vs ws qs ≡ ws)
+      × (buildScratch p ls vs ws qs ≡ qs)
   pub set-value : (i : Image) (q : Key) (v : ℕ) → accepted (exactSays i q) ≡ false → setValues i q v ≡ i .values
-  pub longest-prefix : (i : Image) (q : Key) (out : List ℕ) → accepted (longestSays i q out) ≡ false → longestOut i q out ≡ out
+  pub longest-prefix : (i : Image) (q : Key) (out : List ℕ) → accepted (longestSays i q out) ≡ false
+      → longestOut i q out ≡ out
   pub cursor-key : (i : Image) (c : Cursor) (out : List ℕ) → accepted (keySays i c out) ≡ false → keyOut i c out ≡ out
   pub prefix : (i : Image) (k : ℕ) (out : List ℕ) → accepted (prefixSays i k out) ≡ false → prefixOut i k out ≡ out
   pub query : (i : Image) (k a : ℕ) → accepted (querySays i k a) ≡ false → queryMoves i k a ≡ k
   pub query-until : (i : Image) (k : ℕ) (q : Key) → accepted (followSays i k q) ≡ false → followMoves i k q ≡ k
   pub goto : (i : Image) (k : ℕ) → accepted (gotoSays i k) ≡ false → gotoMoves i k ≡ k
-  pub common-prefix-part : (i : Image) (q : Key) (seen : ℕ) → accepted (commonSays i q seen) ≡ false → commonPart i q seen ≡ []
+  pub common-prefix-part : (i : Image) (q : Key) (seen : ℕ) → accepted (commonSays i q seen) ≡ false
+      → commonPart i q seen ≡ []
   pub common-prefix-none : (i : Image) (q : Key) (seen : ℕ) → commonSays i q seen ≡ 0 ∷ [] → commonPart i q seen ≡ []
   pub tab-line-key : (line : List ℕ) → accepted (tabLineSays line) ≡ false → tabLineKey line ≡ []
   pub write-line : (e : Entry) (out : List ℕ) → accepted (writeLineSays e out) ≡ false → writeLineOut e out ≡ out

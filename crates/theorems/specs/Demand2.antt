@@ -1,5 +1,7 @@
--- Demand 2: on the image of a map every search answers what the query on the map says, also after any calls that set values; and so it is on what build leaves after any history,
--- with "the map of the distinct keys accepted since the last reset, each with its last value". The queries are those of `keymap/specs/Queries`.
+-- Demand 2: on the image of a map every search answers what the query on the map says, also after any calls that set
+-- values; and so it is on what build leaves after any history,
+-- with "the map of the distinct keys accepted since the last reset, each with its last value". The queries are those of
+-- `keymap/specs/Queries`.
 --
 --     AtPath           the calls on the place at a path of the map
 --     Searches         what each call answers on an image that stands for a map
@@ -19,7 +21,8 @@ use Rattle.keymap.specs.Members.{In}
 use Rattle.keymap.specs.Key.{Key, Below, PrefixOf}
 use Rattle.keymap.specs.Refusals.{Refusal, refuses}
 use Rattle.keymap.specs.Map.{Entry, Map, Rising, Catalogue, insert, lookup}
-use Rattle.keymap.specs.Queries.{nonempty, SomeBegins, isPrefixIn, LongestCommon, longestPrefixIn, ShortestWithin, commonPrefixIn, NextAfter, leastAbove}
+use Rattle.keymap.specs.Queries.{nonempty, SomeBegins, isPrefixIn, LongestCommon, longestPrefixIn, ShortestWithin}
+use Rattle.keymap.specs.Queries.{commonPrefixIn, NextAfter, leastAbove}
 use Rattle.keymap.specs.Prefixes.{prefixes}
 use Rattle.keymap.specs.Bits.{pack}
 use Rattle.keymap.specs.Forest.{treeOf}
@@ -43,7 +46,8 @@ use Rattle.searches.specs.CommonPrefixes.{saysCommon, commonSays, partOf, commo
 use Rattle.keymap.specs.Answers.{given}
 use Rattle.listings.specs.Cursors.{setOf, belongs, onCursor, startSays, saysEnd, saysStep, stepIn, stepSays}
 use Rattle.listings.specs.GivenKey.{keyOf, saysKey, keySays, keyOut}
-use Rattle.places.specs.Incremental.{queryIn, querySays, queryMoves, walkable, followIn, followSays, followMoves, commonBelow, gotoIn, gotoSays, gotoMoves}
+use Rattle.places.specs.Incremental.{queryIn, querySays, queryMoves, walkable, followIn, followSays, followMoves}
+use Rattle.places.specs.Incremental.{commonBelow, gotoIn, gotoSays, gotoMoves}
 use Rattle.places.specs.Places.{resumeSays, valueSays, prefixLenSays, prefixSays, prefixOut}
 use Rattle.theorems.specs.Built.{poolAfter, mapAfter, builtImage}
 use Rattle.theorems.specs.Listing.{listingSays, listingIn}
@@ -56,13 +60,20 @@ pub record AtPath (m : Map) (i : Image) (p : Key) : Type 0 where
   -- "Value, prefix (written to a lent buffer) and prefix length read the place"
   pub value : valueSays i (nodeOf m p) ≡ saysValue (lookup p m)
   pub prefix-len : prefixLenSays i (nodeOf m p) ≡ 0 ∷ length p ∷ []
-  pub prefix : (out : List ℕ) → (prefixSays i (nodeOf m p) out ≡ saysWritten p out) × (prefixOut i (nodeOf m p) out ≡ writtenTo p out)
+  pub prefix : (out : List ℕ)
+      → (prefixSays i (nodeOf m p) out ≡ saysWritten p out) × (prefixOut i (nodeOf m p) out ≡ writtenTo p out)
   -- "Query moves or, with no such child, stays. Peek never moves" and answers the same
-  pub query : (a : ℕ) → (querySays i (nodeOf m p) a ≡ queryIn m (p ++ (a ∷ []))) × (queryMoves i (nodeOf m p) a ≡ nodeOf m (cond (isPath m (p ++ (a ∷ []))) (p ++ (a ∷ [])) p))
+  pub query : (a : ℕ)
+      → (querySays i (nodeOf m p) a ≡ queryIn m (p ++ (a ∷ [])))
+      × (queryMoves i (nodeOf m p) a ≡ nodeOf m (cond (isPath m (p ++ (a ∷ []))) (p ++ (a ∷ [])) p))
   -- "`query_until` failing at index i answers Err(i) and has moved i labels; on the empty query Err(0), unmoved"
-  pub query-until : (q : Key) → (followSays i (nodeOf m p) q ≡ followIn m p q) × (followMoves i (nodeOf m p) q ≡ nodeOf m (p ++ take (walkable m p q) q))
-  -- "K empty: Ok(0). Else the place moves to the longest common prefix q of K, answering Ok of the distance if q is in K, else Err of it"
-  pub goto : (gotoSays i (nodeOf m p) ≡ gotoIn m p) × (gotoMoves i (nodeOf m p) ≡ nodeOf m (cond (isPrefixIn p m) (commonBelow m p) p))
+  pub query-until : (q : Key)
+      → (followSays i (nodeOf m p) q ≡ followIn m p q)
+      × (followMoves i (nodeOf m p) q ≡ nodeOf m (p ++ take (walkable m p q) q))
+  -- "K empty: Ok(0). Else the place moves to the longest common prefix q of K, answering Ok of the distance if q is in
+  -- K, else Err of it"
+  pub goto : (gotoSays i (nodeOf m p) ≡ gotoIn m p)
+      × (gotoMoves i (nodeOf m p) ≡ nodeOf m (cond (isPrefixIn p m) (commonBelow m p) p))
   pub goto-longest : isPrefixIn p m ≡ true → LongestCommon (setOf m Postfix p) (commonBelow m p)
 
 -- a number that is no node's: every call answers BadPlace
@@ -92,36 +103,54 @@ pub record Searches (m : Map) (i : Image) : Type 0 where
   pub empty-query : lookup [] m ≡ none
   -- `is_prefix`: "yes exactly if some key begins with the query and is longer"
   pub is-prefix : (q : Key) → isPrefixSays i q ≡ saysFlag (isPrefixIn q m)
-  pub some-longer : (q : Key) → (isPrefixIn q m ≡ true) ↔ ((e : Entry) × In e m × PrefixOf q (e .0) × (length q < length (e .0)))
+  pub some-longer : (q : Key)
+      → (isPrefixIn q m ≡ true) ↔ ((e : Entry) × In e m × PrefixOf q (e .0) × (length q < length (e .0)))
   -- `longest_prefix`: "written to a lent buffer and its length answered; no match writes nothing"
-  pub longest-prefix : (q : Key) (out : List ℕ) → (longestSays i q out ≡ saysLongest (longestPrefixIn q m) out) × (longestOut i q out ≡ writtenKey (longestPrefixIn q m) out)
+  pub longest-prefix : (q : Key) (out : List ℕ)
+      → (longestSays i q out ≡ saysLongest (longestPrefixIn q m) out)
+      × (longestOut i q out ≡ writtenKey (longestPrefixIn q m) out)
   -- "the longest common prefix of all keys beginning with the query; no match if there are none or it is empty"
-  pub longest : (q p : Key) → (longestPrefixIn q m ≡ some p) ↔ (SomeBegins q m × LongestCommon (setOf m Predictive q) p × (¬ (p ≡ [])))
-  pub no-longest : (q : Key) → (longestPrefixIn q m ≡ none) ↔ ((¬ SomeBegins q m) ⊎ LongestCommon (setOf m Predictive q) [])
+  pub longest : (q p : Key)
+      → (longestPrefixIn q m ≡ some p) ↔ (SomeBegins q m × LongestCommon (setOf m Predictive q) p × (¬ (p ≡ [])))
+  pub no-longest : (q : Key)
+      → (longestPrefixIn q m ≡ none) ↔ ((¬ SomeBegins q m) ⊎ LongestCommon (setOf m Predictive q) [])
   -- the answer, and "that leading part of the query itself"
-  pub common-prefix : (q : Key) (seen : ℕ) → (commonSays i q seen ≡ saysCommon (commonPrefixIn q seen m)) × (commonPart i q seen ≡ partOf q (commonPrefixIn q seen m))
+  pub common-prefix : (q : Key) (seen : ℕ)
+      → (commonSays i q seen ≡ saysCommon (commonPrefixIn q seen m))
+      × (commonPart i q seen ≡ partOf q (commonPrefixIn q seen m))
   -- "the shortest key longer than that and a prefix of the query"
   pub shortest : (q : Key) (seen : ℕ) (e : Entry) → (commonPrefixIn q seen m ≡ some e) ↔ ShortestWithin q seen m e
-  pub no-shortest : (q : Key) (seen : ℕ) → (commonPrefixIn q seen m ≡ none) ↔ ((e : Entry) → In e m → PrefixOf (e .0) q → ¬ (seen < length (e .0)))
+  pub no-shortest : (q : Key) (seen : ℕ)
+      → (commonPrefixIn q seen m ≡ none) ↔ ((e : Entry) → In e m → PrefixOf (e .0) q → ¬ (seen < length (e .0)))
   -- "no path gives a finished cursor, and so does an empty set"
-  pub start : (kind : Kind) (q : Key) → startSays kind i q ≡ 0 ∷ saidCursor (cond (nonempty (setOf m kind q)) (Open kind (nodeOf m q) 0) (Finished kind))
+  pub start : (kind : Kind) (q : Key)
+      → startSays kind i q
+      ≡ 0 ∷ saidCursor (cond (nonempty (setOf m kind q)) (Open kind (nodeOf m q) 0) (Finished kind))
   -- a start and any number of steps give the listing's entries in turn, and then the end each time
   pub listing : (k : ℕ) (kind : Kind) (q : Key) → listingSays k kind i q ≡ listingIn k m kind q
   -- "listings name each match once, in rising byte order"
   pub rises : (kind : Kind) (q : Key) → Rising (setOf m kind q)
   pub predictive : (q : Key) (e : Entry) → In e (setOf m Predictive q) ↔ (In e m × PrefixOf q (e .0))
-  pub postfix : (q : Key) (e : Entry) → In e (setOf m Postfix q) ↔ (In e m × PrefixOf q (e .0) × (length q < length (e .0)))
+  pub postfix : (q : Key) (e : Entry)
+      → In e (setOf m Postfix q) ↔ (In e m × PrefixOf q (e .0) × (length q < length (e .0)))
   -- "A step answers the least key of its set above the last one given": of the cursor that a step gave an entry with
   pub next : (kind : Kind) (q : Key) (e : Entry) → In e (setOf m kind q)
-      → stepSays i (Open kind (nodeOf m q) (nodeOf m (e .0))) ≡ saysStep m kind (nodeOf m q) (leastAbove (e .0) (setOf m kind q))
-  pub least : (kind : Kind) (q k : Key) (e : Entry) → (leastAbove k (setOf m kind q) ≡ some e) ↔ NextAfter k (setOf m kind q) e
-  pub no-least : (kind : Kind) (q k : Key) → (leastAbove k (setOf m kind q) ≡ none) ↔ ((e : Entry) → In e (setOf m kind q) → ¬ Below k (e .0))
+      → stepSays i (Open kind (nodeOf m q) (nodeOf m (e .0)))
+      ≡ saysStep m kind (nodeOf m q) (leastAbove (e .0) (setOf m kind q))
+  pub least : (kind : Kind) (q k : Key) (e : Entry)
+      → (leastAbove k (setOf m kind q) ≡ some e) ↔ NextAfter k (setOf m kind q) e
+  pub no-least : (kind : Kind) (q k : Key)
+      → (leastAbove k (setOf m kind q) ≡ none) ↔ ((e : Entry) → In e (setOf m kind q) → ¬ Below k (e .0))
   -- that cursor has its key
   pub cursor-key : (kind : Kind) (q : Key) (e : Entry) → In e (setOf m kind q) → (out : List ℕ)
-      → (keySays i (Open kind (nodeOf m q) (nodeOf m (e .0))) out ≡ saysWritten (listedKey kind q (e .0)) out) × (keyOut i (Open kind (nodeOf m q) (nodeOf m (e .0))) out ≡ writtenTo (listedKey kind q (e .0)) out)
+      → (keySays i (Open kind (nodeOf m q) (nodeOf m (e .0))) out ≡ saysWritten (listedKey kind q (e .0)) out)
+      × (keyOut i (Open kind (nodeOf m q) (nodeOf m (e .0))) out ≡ writtenTo (listedKey kind q (e .0)) out)
   -- and any cursor: "a key is asked of a cursor that is fresh or finished" is BadPlace too
-  pub key : (c : Cursor) (out : List ℕ) → (keySays i c out ≡ onCursor m c (saysKey (keyOf m c) out)) × (keyOut i c out ≡ cond (belongs m c) (writtenKey (keyOf m c) out) out)
-  -- a step on any cursor: BadPlace where it does not belong, and "A step on a finished cursor ends at once, and again each time"
+  pub key : (c : Cursor) (out : List ℕ)
+      → (keySays i c out ≡ onCursor m c (saysKey (keyOf m c) out))
+      × (keyOut i c out ≡ cond (belongs m c) (writtenKey (keyOf m c) out) out)
+  -- a step on any cursor: BadPlace where it does not belong, and "A step on a finished cursor ends at once, and again
+  -- each time"
   pub step : (c : Cursor) → stepSays i c ≡ onCursor m c (stepIn m c)
   pub finished : (kind : Kind) → stepSays i (Finished kind) ≡ saysEnd kind
   -- "A place is a node number 1 to n+1": each path of the map is one node's, and each node has one

@@ -1,4 +1,5 @@
--- A listing as it is called (01, module 6): a start, then steps, each on the cursor that the answer before it handed back.
+-- A listing as it is called (01, module 6): a start, then steps, each on the cursor that the answer before it handed
+-- back.
 --
 --     heardCursor      the cursor that numbers tell
 --     heardNext        the one to go on with; a refusal hands none back

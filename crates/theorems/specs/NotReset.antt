@@ -1,4 +1,5 @@
--- "A sound pool that was not reset here counts, in demand 2, as reset and then given the keys its marked records spell, with their values" (01, "The pool").
+-- "A sound pool that was not reset here counts, in demand 2, as reset and then given the keys its marked records spell,
+-- with their values" (01, "The pool").
 -- Assumes nothing.
 use Prim.Native.Nat.{ℕ}
 use mathlib.Core.Path.{_≡_}
@@ -31,7 +32,8 @@ pub record NotReset (p : Pool) : Type 0 where
   -- any calls on the one answer what they answer on the other
   pub answers : (cs : List Call) → AllLent (poolCalls cs) → historySays p cs ≡ historySays (refilled p) cs
   -- and what is built after them is searched by the map that the calls leave of it
-  pub searches : (cs : List Call) → AllLent (poolCalls cs) → (n : ℕ) (ls vs ws qs : List ℕ) → buildSays (runPool p (poolCalls cs)) ls vs ws qs ≡ 0 ∷ n ∷ []
+  pub searches : (cs : List Call) → AllLent (poolCalls cs) → (n : ℕ) (ls vs ws qs : List ℕ)
+      → buildSays (runPool p (poolCalls cs)) ls vs ws qs ≡ 0 ∷ n ∷ []
       → Demand2 (mapRun (capacity p) (poolMap p) (poolCalls cs)) (builtImage n (runPool p (poolCalls cs)) ls vs ws qs)
 
 -- the words of a lent pool are of 32 bits

@@ -1,5 +1,7 @@
--- 01's worked lines marked P, as one table: what is asked, and the numbers that are to be answered. A is the pushes "ab" 7, "b" 3; B the pushes "b" 3, "ab" 7.
--- What is said of an asked line is what the calls' contracts cite, from a reset on: the words that the pushes leave, the slices that build leaves, and the searches on these.
+-- 01's worked lines marked P, as one table: what is asked, and the numbers that are to be answered. A is the pushes
+-- "ab" 7, "b" 3; B the pushes "b" 3, "ab" 7.
+-- What is said of an asked line is what the calls' contracts cite, from a reset on: the words that the pushes leave,
+-- the slices that build leaves, and the searches on these.
 --
 --     Asked            what is asked of the keys pushed
 --     says             what the calls answer
@@ -83,7 +85,8 @@ givenAt i (r ∷ suc k ∷ v ∷ ns) c = v ∷ writtenPart (keySays i c buffer) 
 
 unfoldable pub listedFrom : ℕ → Image → Cursor → List (List ℕ)
 listedFrom zero i c = []
-listedFrom (suc k) i c = let said = stepSays i c in givenAt i said (heardNext said c) ∷ listedFrom k i (heardNext said c)
+listedFrom (suc k) i c =
+    let said = stepSays i c in givenAt i said (heardNext said c) ∷ listedFrom k i (heardNext said c)
 
 -- the place at a path, come to from the root, which is node 1
 abbrev pub placeOf : Image → Key → ℕ

@@ -1,5 +1,7 @@
--- Gliding: from a node down to where the keys that begin with its path part, the end of what they have in common (01, modules 5 and 7).
--- On any bits a glide goes on as long as the node has no value and one child, and that child counts: each step leads to a higher number, up to n+1 at most.
+-- Gliding: from a node down to where the keys that begin with its path part, the end of what they have in common (01,
+-- modules 5 and 7).
+-- On any bits a glide goes on as long as the node has no value and one child, and that child counts: each step leads to
+-- a higher number, up to n+1 at most.
 --
 --     commonOf       the longest common prefix of the keys that begin with a path
 --     goesThrough    a node without value has one child, and it counts
@@ -28,7 +30,8 @@ commonOf m p = commonOfAll (beginning p m)
 
 unfoldable pub goesThrough : List ℕ → List ℕ → (ℕ → ℕ) → ℕ → Stand → Bool
 goesThrough ls vs b len s =
-    not (given (valueOfNode ls vs (s .node))) && (eqb (kidsFrom b len s .count) 1 && counts (length ls) (s .node) (kidsFrom b len s .first))
+    not (given (valueOfNode ls vs (s .node)))
+    && (eqb (kidsFrom b len s .count) 1 && counts (length ls) (s .node) (kidsFrom b len s .first))
 
 unfoldable pub onlyKid : (ℕ → ℕ) → ℕ → Stand → Stand
 onlyKid b len s = kidFrom b len (s .node) (kidsFrom b len s .next) (kidsFrom b len s .first)
@@ -40,8 +43,10 @@ onwardFrom ls vs b len s = cond (goesThrough ls vs b len s) (To (onlyKid b len s
 unfoldable pub glides : List ℕ → List ℕ → (ℕ → ℕ) → ℕ → ℕ → Stand → ℕ → Glided
 glides ls vs b len zero s steps = record { stand = s; steps = steps }
 glides ls vs b len (suc left) s steps =
-    cond (goesThrough ls vs b len s) (glides ls vs b len left (onlyKid b len s) (steps + 1)) (record { stand = s; steps = steps })
+    cond (goesThrough ls vs b len s) (glides ls vs b len left (onlyKid b len s) (steps + 1))
+    (record { stand = s; steps = steps })
 
--- a child that counts has a number above its node's and at most n+1, so there are no more steps than numbers from the node's to that
+-- a child that counts has a number above its node's and at most n+1, so there are no more steps than numbers from the
+-- node's to that
 unfoldable pub glidedFrom : List ℕ → List ℕ → (ℕ → ℕ) → ℕ → Stand → Glided
 glidedFrom ls vs b len s = glides ls vs b len (length ls + 1 - s .node) s 0

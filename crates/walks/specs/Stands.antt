@@ -1,5 +1,7 @@
--- The rule's steps as the code takes them: a stand knows the place of its node's zero, and the next zeros are looked for from there on.
--- Any node number and any place may be handed in; proofs/Laws/Stands has that a stand which knows its zero gives what the rule gives.
+-- The rule's steps as the code takes them: a stand knows the place of its node's zero, and the next zeros are looked
+-- for from there on.
+-- Any node number and any place may be handed in; proofs/Laws/Stands has that a stand which knows its zero gives what
+-- the rule gives.
 --
 --     standAt       a node with the place of its zero, or the end
 --     isStand       a place inside the bits that can be a node's zero
@@ -40,7 +42,11 @@ nextZero b len p = orEnd len (zeroFrom b len (p + 1) 1)
 unfoldable pub kidsFrom : (ℕ → ℕ) → ℕ → Stand → Kids
 kidsFrom b len s =
     cond (isStand len (s .node) (s .zero))
-    (record { first = s .zero + 1 - (s .node - 1); count = nextZero b len (s .zero) - (s .zero + 1); next = nextZero b len (s .zero) })
+    (record {
+      first = s .zero + 1 - (s .node - 1);
+      count = nextZero b len (s .zero) - (s .zero + 1);
+      next = nextZero b len (s .zero);
+    })
     (record { first = 0; count = 0; next = len })
 
 unfoldable pub kidFrom : (ℕ → ℕ) → ℕ → ℕ → ℕ → ℕ → Stand
@@ -60,7 +66,8 @@ toKid b len k next (some m) = To (kidFrom b len k next m)
 
 unfoldable pub downFrom : List ℕ → (ℕ → ℕ) → ℕ → Stand → ℕ → Reached
 downFrom ls b len s a =
-    toKid b len (s .node) (kidsFrom b len s .next) (lowestBy ls (s .node) (kidsFrom b len s .count) (kidsFrom b len s .first) a)
+    toKid b len (s .node) (kidsFrom b len s .next)
+    (lowestBy ls (s .node) (kidsFrom b len s .count) (kidsFrom b len s .first) a)
 
 -- from the stand where a walk is, if it is anywhere
 abbrev pub thenDown : List ℕ → (ℕ → ℕ) → ℕ → ℕ → Reached → Reached

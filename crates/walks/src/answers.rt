@@ -1,4 +1,5 @@
-// What `stands::kids` answers. It stands apart from that function, since no two names of a module may differ only in case.
+// What `stands::kids` answers. It stands apart from that function, since no two names of a module may differ only in
+// case.
 
 // The children of a node.
 pub struct Kids {

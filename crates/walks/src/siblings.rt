@@ -1,4 +1,5 @@
-// Which of a node's children has a label: they are looked through from the first up to one that has it, since their labels need not rise.
+// Which of a node's children has a label: they are looked through from the first up to one that has it, since their
+// labels need not rise.
 ghost use mathlib.Core.Path.{_≡_};
 ghost use Prim.Native.Nat.{_+_, _-_, min, max};
 ghost use Rattle.walks.specs.Rule.{lowestBy};

@@ -1,4 +1,5 @@
-// Stands and their children, in the first `len` bits. A stand carries the place of its node's zero, so that a step down goes on from there:
+// Stands and their children, in the first `len` bits. A stand carries the place of its node's zero, so that a step down
+// goes on from there:
 // of these calls only `stand_at`, for a node that is given by its number, looks from bit 0 on.
 ghost use mathlib.Core.Path.{_≡_};
 ghost use Rattle.keymap.specs.Bits.{bit};
@@ -50,7 +51,8 @@ fn is_stand(len: usize, node: usize, zero: usize) -> bool
     node <= zero + 1
 }
 
-// The children of a stand: the ones behind its zero, up to the next zero or the end. A stand that cannot be one has none.
+// The children of a stand: the ones behind its zero, up to the next zero or the end. A stand that cannot be one has
+// none.
 pub fn kids(words: &[u64], len: usize, s: Stand) -> Kids
     ensures { λ r. ⌜ r ≡ kidsFrom (bit (now (words .entry))) len s ⌝ }
 {

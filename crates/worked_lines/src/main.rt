@@ -1,4 +1,5 @@
-// Replays two lists of cases and writes the answer to each on a line: `rust_cases`, answered by the Rust, and `document_cases`, answered by the scope document.
+// Replays two lists of cases and writes the answer to each on a line: `rust_cases`, answered by the Rust, and
+// `document_cases`, answered by the scope document.
 // tools/oracle/README.md has the letters. The memory that the calls are lent is main's own.
 mod cursors;
 mod held;

@@ -38,7 +38,8 @@ fn say(told: u64) {
     number(told);
 }
 
-// The exact match, and behind it what the lookup that does not test the image tells, if that is another answer of an image that is accepted.
+// The exact match, and behind it what the lookup that does not test the image tells, if that is another answer of an
+// image that is accepted.
 fn exact(labels: &[u16], values: &[u32], words: &[u64], query: &[u8]) {
     let tested = told(trie::exact_match(labels, values, words, query));
     say(tested);
@@ -74,7 +75,8 @@ fn left_out(t: u8) -> usize
     0
 }
 
-// The lookup that does not test the image, of every query of at most three letters `a` and `b`, with these bits for its only word.
+// The lookup that does not test the image, of every query of at most three letters `a` and `b`, with these bits for its
+// only word.
 // The queries are numbered from 1 to 15.
 fn table(labels: &[u16], values: &[u32], bits: u64) {
     let words = [bits];

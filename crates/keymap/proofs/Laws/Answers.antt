@@ -9,6 +9,7 @@ use mathlib.Core.List.{List, [], _∷_, _++_}
 use lib.ListN.{length, drop}
 use borrow.Author.Tests.{le-leb, lt-leb}
 use Rattle.keymap.specs.Key.{Key}
+use Rattle.keymap.specs.Buffers.{over}
 use Rattle.keymap.specs.Refusals.{refuses, KeyRoom}
 use Rattle.keymap.specs.Answers.{saysWritten, writtenTo}
 
@@ -18,6 +19,7 @@ pub record KeyWritten (k : Key) (out : List ℕ) (says : List ℕ) (after : List
 
 module _ (k : Key) (out : List ℕ) where
   pub written-fits : length k ≤ length out → KeyWritten k out (0 ∷ length k ∷ []) (k ++ drop (length k) out)
+  unfolding over
   written-fits l = record { says-is = rw (le-leb (length k) (length out) l); after-is = rw (le-leb (length k) (length out) l) }
 
   pub written-short : length out < length k → KeyWritten k out (refuses KeyRoom) out

@@ -10,6 +10,7 @@ use lib.ListN.{length, replicate}
 use Rattle.keymap.specs.Members.{In, here, there}
 use Rattle.keymap.specs.Key.{Key, Below, compareKeys, beginsWith, extends, commonPrefix}
 use Rattle.keymap.specs.Map.{Entry, Map, Rising, Catalogue, insert, lookup}
+use Rattle.keymap.specs.Buffers.{over}
 use Rattle.keymap.specs.Queries.{keep, beginning, longer, SomeBegins, isPrefixIn, LongestCommon, commonOfAll, longestPrefixIn, ShortestWithin, commonPrefixIn, NextAfter, leastAbove}
 use Rattle.keymap.specs.Prefixes.{level, deepest, levels, prefixes}
 use Rattle.keymap.specs.Bits.{pack}
@@ -79,7 +80,7 @@ one-longer = onA .some-longer a .0 some-longer
 -- "`longest_prefix` "": no match; "a": "ab"; "ac": no match"
 pub longest-prefix : longestSays imageA [] four ∷ longestSays imageA a four ∷ longestOut imageA a four ∷ longestSays imageA ac four ∷ longestOut imageA ac four ∷ []
     ≡ (0 ∷ []) ∷ (0 ∷ 2 ∷ []) ∷ (97 ∷ 98 ∷ 9 ∷ 9 ∷ []) ∷ (0 ∷ []) ∷ four ∷ []
-unfolding longestPrefixIn commonOfAll commonPrefix beginning keep beginsWith
+unfolding longestPrefixIn commonOfAll commonPrefix beginning keep beginsWith over
 longest-prefix = λ i. onA .longest-prefix [] four .0 i ∷ onA .longest-prefix a four .0 i ∷ onA .longest-prefix a four .1 i ∷ onA .longest-prefix ac four .0 i ∷ onA .longest-prefix ac four .1 i ∷ []
 
 -- which is what the keys beginning with "a" have in common, and no more
@@ -189,7 +190,7 @@ no-least = (onA .no-least Predictive [] b .0 none-b, onA .no-least Postfix a ab 
 -- the key of a cursor: "ab" in a predictive listing, "b" in a postfix listing of "a"
 pub cursor-key : keySays imageA (Open Postfix 2 4) four ∷ keyOut imageA (Open Postfix 2 4) four ∷ keySays imageA (Open Predictive 2 4) four ∷ keyOut imageA (Open Predictive 2 4) four ∷ keySays imageA (Open Predictive 2 4) (9 ∷ []) ∷ []
     ≡ (0 ∷ 1 ∷ []) ∷ (98 ∷ 9 ∷ 9 ∷ 9 ∷ []) ∷ (0 ∷ 2 ∷ []) ∷ (97 ∷ 98 ∷ 9 ∷ 9 ∷ []) ∷ (8 ∷ []) ∷ []
-unfolding beginning longer keep extends beginsWith nodeOf indexOf nodes prefixes levels level deepest compareKeys
+unfolding beginning longer keep extends beginsWith nodeOf indexOf nodes prefixes levels level deepest compareKeys over
 cursor-key =
     λ i. onA .cursor-key Postfix a (ab, 7) (here refl) four .0 i
     ∷ onA .cursor-key Postfix a (ab, 7) (here refl) four .1 i
@@ -251,7 +252,7 @@ at-ab = λ i. atAb .resume i ∷ atAb .value i ∷ atAb .prefix-len i ∷ atAb .
 
 -- at "a": the place is 2, there is no value, the path is one byte
 pub at-a : resumeSays imageA 2 ∷ valueSays imageA 2 ∷ prefixLenSays imageA 2 ∷ prefixSays imageA 2 four ∷ prefixOut imageA 2 four ∷ [] ≡ (0 ∷ 2 ∷ []) ∷ (0 ∷ []) ∷ (0 ∷ 1 ∷ []) ∷ (0 ∷ 1 ∷ []) ∷ (97 ∷ 9 ∷ 9 ∷ 9 ∷ []) ∷ []
-unfolding lookup nodeOf indexOf nodes prefixes levels level deepest compareKeys
+unfolding lookup nodeOf indexOf nodes prefixes levels level deepest compareKeys over
 at-a = λ i. atA .resume i ∷ atA .value i ∷ atA .prefix-len i ∷ atA .prefix four .0 i ∷ atA .prefix four .1 i ∷ []
 
 -- "b" leads to "ab", a match, and "x" nowhere

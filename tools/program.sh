@@ -7,7 +7,7 @@ root=$(cd "$(dirname "$0")/.." && pwd -P)
 # build NAME: proves and links the program. Stdout stays empty: a line for each crate as it is proved goes to stderr, and where
 # `rt` fails all that it said
 build() {
-    echo "Proving $1 and the crates below it: some three minutes on two cores the first time, and a second once it is proved." >&2
+    echo "Proving $1 and the crates below it: some three minutes on two idle cores the first time, and a second once it is proved." >&2
     if ! said=$(set -o pipefail && cd "$root" && rt check "$1" 2>&1 | tell); then
         printf '%s\n' "$said" >&2
         exit 1

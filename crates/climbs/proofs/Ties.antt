@@ -3,9 +3,10 @@
 use mathlib.Core.Path.{_≡_}
 use denote.Ref.{now}
 use Rattle.keymap.specs.Contract.{Tells}
+use Rattle.keymap.specs.Answers.{answerNumber}
 use Rattle.keymap.specs.Bits.{bit}
 use Rattle.climbs.specs.Perches.{perchAt, parentFrom, depthBy}
-use Rattle.climbs.specs.Spelling.{spelledBy}
+use Rattle.climbs.specs.Spelling.{spelledBy, saidSpelled}
 use Rattle.climbs.specs.Below.{belowBy}
 use Rattle.climbs.specs.Order.{nextBy, givenOf}
 use Rattle.climbs.proofs.perches.perch_at.Kinds as perch-at-kinds
@@ -20,6 +21,8 @@ use Rattle.climbs.proofs.below.is_below.Kinds as is-below-kinds
 use Rattle.climbs.proofs.below.is_below.Reads as is-below-reads
 use Rattle.climbs.proofs.order.next_valued.Kinds as next-valued-kinds
 use Rattle.climbs.proofs.order.next_valued.Reads as next-valued-reads
+use Rattle.climbs.proofs.answers.Spelled.number.Kinds as spelled-number-kinds
+use Rattle.climbs.proofs.answers.Spelled.number.Reads as spelled-number-reads
 
 pub perch-at-says : Tells 1 perch-at-kinds.ps perch-at-kinds.r perch-at-reads.Post (λ κs a r s. r ≡ perchAt (bit (now (a .0))) (a .1 .0) (a .1 .1 .0))
 perch-at-says κs a r s p = p
@@ -38,3 +41,6 @@ is-below-says κs a r s p = p
 
 pub next-valued-says : Tells 3 next-valued-kinds.ps next-valued-kinds.r next-valued-reads.Post (λ κs a r s. r ≡ givenOf (nextBy (now (a .0)) (now (a .1 .0)) (bit (now (a .1 .1 .0))) (a .1 .1 .1 .0) (a .1 .1 .1 .1 .0) (a .1 .1 .1 .1 .1 .0)))
 next-valued-says κs a r s p = p
+
+pub spelled-number-says : Tells 0 spelled-number-kinds.ps spelled-number-kinds.r spelled-number-reads.Post (λ κs a r s. r ≡ answerNumber (saidSpelled (a .0)))
+spelled-number-says κs a r s p = p

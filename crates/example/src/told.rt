@@ -1,5 +1,5 @@
-// Writes what the calls answered: a name, TAB and a number on a line. That a call refuses is told in place of the
-// number, and that it is done by nothing.
+// Writes what the calls answered: a name, TAB and a number on a line. A call that is done is told by nothing, one that
+// refuses by `refused` and its number.
 ghost use mathlib.Core.Path.{_≡_};
 ghost use lib.ListN.{getD};
 ghost use Rattle.pool.specs.Answers.{saidCounted};
@@ -18,11 +18,11 @@ pub fn line(name: &[u8], n: usize) {
     io::write_all(STDOUT_FILENO, b"\n");
 }
 
-// There is no number then, and 0 stands for it.
-fn refused() -> usize
+// 0 stands for what the call did not answer.
+fn refused(number: u32) -> usize
     ensures { λ r. ⌜ r ≡ 0 ⌝ }
 {
-    io::write_all(STDOUT_FILENO, b"refused\n");
+    line(b"refused", number as usize);
     0
 }
 
@@ -30,14 +30,14 @@ pub fn cleared(answer: Cleared) {
     if let Cleared::Done = answer {
         return;
     }
-    refused();
+    refused(answer.number());
 }
 
 pub fn pushed(answer: Pushed) {
     if let Pushed::Done = answer {
         return;
     }
-    refused();
+    refused(answer.number());
 }
 
 // The nodes besides the root.
@@ -49,9 +49,9 @@ pub fn built(answer: Built) -> usize
             line(b"nodes", n as usize);
             n as usize
         }
-        Built::PoolTooSmall => refused(),
-        Built::NotAPool => refused(),
-        Built::OutTooSmall => refused(),
+        Built::PoolTooSmall => refused(answer.number()),
+        Built::NotAPool => refused(answer.number()),
+        Built::OutTooSmall => refused(answer.number()),
     }
 }
 
@@ -62,7 +62,7 @@ pub fn looked(answer: Looked) {
             io::write_all(STDOUT_FILENO, b"no match\n");
         }
         Looked::NotAnImage => {
-            refused();
+            refused(answer.number());
         }
     }
 }
@@ -73,7 +73,7 @@ pub fn used(answer: Counted) -> usize
 {
     match answer {
         Counted::Records(n) => n as usize,
-        Counted::PoolTooSmall => refused(),
-        Counted::NotAPool => refused(),
+        Counted::PoolTooSmall => refused(answer.number()),
+        Counted::NotAPool => refused(answer.number()),
     }
 }

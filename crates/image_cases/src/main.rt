@@ -10,7 +10,6 @@
 // written.
 ghost use Prim.Native.Nat.{_≤_};
 use image::answers::Built;
-use image::answers::Checked;
 use replay::counts::of_values;
 use replay::lists::read_list;
 use replay::memory::LONGEST;
@@ -40,16 +39,7 @@ fn built(answer: Built) {
             number(0);
             number(n as u64);
         }
-        Built::PoolTooSmall => number(1),
-        Built::NotAPool => number(2),
-        Built::OutTooSmall => number(5),
-    }
-}
-
-fn checked(answer: Checked) {
-    match answer {
-        Checked::Accepted => number(0),
-        Checked::NotAnImage => number(6),
+        _ => number(answer.number() as u64),
     }
 }
 
@@ -88,7 +78,7 @@ fn told(line: &[u8], labels: &[u16], values: &[u32], words: &[u64], scratch: &[u
         show(labels, values, words, scratch);
     }
     word(BAR);
-    checked(image::accept(labels, values, words));
+    number(image::accept(labels, values, words).number() as u64);
     byte(b'\n');
 }
 

@@ -13,6 +13,10 @@ use Rattle.listings.proofs.answers.Cursor.top
 use Rattle.listings.proofs.answers.Cursor.top.Reads as top-reads
 use Rattle.listings.proofs.answers.Cursor.finished
 use Rattle.listings.proofs.answers.Cursor.finished.Reads as finished-reads
+use Rattle.listings.proofs.answers.Started.number as started-number
+use Rattle.listings.proofs.answers.Started.number.Reads as started-number-reads
+use Rattle.listings.proofs.answers.Stepped.number as stepped-number
+use Rattle.listings.proofs.answers.Stepped.number.Reads as stepped-number-reads
 
 pub predictive-search-asks-nothing : (κs : Lfts 4) (a : ArgsD predictive_search.signature κs) → predictive-search-reads.Pre κs a
 predictive-search-asks-nothing κs a = tt
@@ -31,3 +35,9 @@ top-asks-nothing κs a = tt
 
 pub finished-asks-nothing : (κs : Lfts 0) (a : ArgsD finished.signature κs) → finished-reads.Pre κs a
 finished-asks-nothing κs a = tt
+
+pub started-number-asks-nothing : (κs : Lfts 0) (a : ArgsD started-number.signature κs) → started-number-reads.Pre κs a
+started-number-asks-nothing κs a = tt
+
+pub stepped-number-asks-nothing : (κs : Lfts 0) (a : ArgsD stepped-number.signature κs) → stepped-number-reads.Pre κs a
+stepped-number-asks-nothing κs a = tt

@@ -3,6 +3,7 @@
 use mathlib.Core.Path.{_≡_}
 use denote.Ref.{now}
 use Rattle.keymap.specs.Contract.{Tells}
+use Rattle.keymap.specs.Answers.{answerNumber}
 use Rattle.image.specs.Meaning.{imageIn}
 use Rattle.climbs.specs.Spelling.{saidSpelled}
 use Rattle.listings.specs.declared.answers.Kind.the-variants.{Predictive, Postfix}
@@ -22,6 +23,10 @@ use Rattle.listings.proofs.answers.Cursor.top.Kinds as top-kinds
 use Rattle.listings.proofs.answers.Cursor.top.Reads as top-reads
 use Rattle.listings.proofs.answers.Cursor.finished.Kinds as finished-kinds
 use Rattle.listings.proofs.answers.Cursor.finished.Reads as finished-reads
+use Rattle.listings.proofs.answers.Started.number.Kinds as started-number-kinds
+use Rattle.listings.proofs.answers.Started.number.Reads as started-number-reads
+use Rattle.listings.proofs.answers.Stepped.number.Kinds as stepped-number-kinds
+use Rattle.listings.proofs.answers.Stepped.number.Reads as stepped-number-reads
 
 pub predictive-search-says : Tells 4 predictive-search-kinds.ps predictive-search-kinds.r predictive-search-reads.Post (λ κs a r s. saidStarted r ≡ startSays Predictive (imageIn (a .0) (a .1 .0) (a .1 .1 .0)) (now (a .1 .1 .1 .0)))
 predictive-search-says κs a r s p = p
@@ -40,3 +45,9 @@ top-says κs a r s p = p
 
 pub finished-says : Tells 0 finished-kinds.ps finished-kinds.r finished-reads.Post (λ κs a r s. r ≡ Finished (a .0))
 finished-says κs a r s p = p
+
+pub started-number-says : Tells 0 started-number-kinds.ps started-number-kinds.r started-number-reads.Post (λ κs a r s. r ≡ answerNumber (saidStarted (a .0)))
+started-number-says κs a r s p = p
+
+pub stepped-number-says : Tells 0 stepped-number-kinds.ps stepped-number-kinds.r stepped-number-reads.Post (λ κs a r s. r ≡ answerNumber (saidStepped (a .0)))
+stepped-number-says κs a r s p = p

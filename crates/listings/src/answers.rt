@@ -1,5 +1,7 @@
 // What the listings are asked with and answer.
 ghost use mathlib.Core.Path.{_≡_};
+ghost use Rattle.keymap.specs.Answers.{answerNumber};
+ghost use Rattle.listings.specs.Answers.{saidStarted, saidStepped};
 ghost use Rattle.listings.specs.declared.answers.Cursor.the-variants.{Open, Finished};
 
 // Which keys a listing gives: those that begin with the query, or those that are longer besides.
@@ -42,6 +44,18 @@ pub enum Started {
     NotAnImage,
 }
 
+impl Started {
+    // The number of a refusal, 0 where there is none.
+    pub fn number(self) -> u32
+        ensures { λ r. ⌜ r ≡ answerNumber (saidStarted self) ⌝ }
+    {
+        match self {
+            Started::At(_) => 0,
+            Started::NotAnImage => 6,
+        }
+    }
+}
+
 // A step of a listing.
 pub enum Stepped {
     // The least key of the set above the last one given: its node and value, and the cursor to go on with.
@@ -52,4 +66,22 @@ pub enum Stepped {
     NotAnImage,
     // The cursor does not belong to the image.
     BadPlace,
+}
+
+impl Stepped {
+    // The number of a refusal, 0 where there is none.
+    pub fn number(self) -> u32
+        ensures { λ r. ⌜ r ≡ answerNumber (saidStepped self) ⌝ }
+    {
+        match self {
+            Stepped::Gave {
+                node: _,
+                value: _,
+                next: _,
+            } => 0,
+            Stepped::End { next: _ } => 0,
+            Stepped::NotAnImage => 6,
+            Stepped::BadPlace => 7,
+        }
+    }
 }

@@ -23,6 +23,7 @@ use places::query_until;
 use replay::counts::of_labels;
 use replay::counts::of_values;
 use replay::lists::read_list;
+use replay::printing::number;
 use replay::printing::text;
 use replay::text::hex;
 use replay::text::letter;
@@ -90,10 +91,6 @@ fn goto_from(labels: &[u16], values: &[u32], words: &[u64], node: u32) -> GotoMo
     }
 }
 
-fn number(n: u64) {
-    io::print_decimal(1, n);
-}
-
 fn tell(answer: Answer) {
     if answer.is_prefix() {
         text(b" prefix");
@@ -109,8 +106,7 @@ fn queried(moved: QueryMove) -> u32 {
     match answer {
         Queried::Found(found) => tell(found),
         Queried::NoMatch => text(b" no match"),
-        Queried::NotAnImage => text(b" 6"),
-        Queried::BadPlace => text(b" 7"),
+        _ => number(answer.number() as u64),
     }
     moved.node
 }
@@ -123,11 +119,10 @@ fn followed(moved: FollowMove) -> u32 {
             tell(found);
         }
         Followed::Err(index) => {
-            text(b" Err ");
+            text(b" Err");
             number(index as u64);
         }
-        Followed::NotAnImage => text(b" 6"),
-        Followed::BadPlace => text(b" 7"),
+        _ => number(answer.number() as u64),
     }
     moved.node
 }
@@ -136,15 +131,14 @@ fn gone(moved: GotoMove) -> u32 {
     let answer = moved.answer;
     match answer {
         Gone::Ok(distance) => {
-            text(b" Ok ");
+            text(b" Ok");
             number(distance as u64);
         }
         Gone::Err(distance) => {
-            text(b" Err ");
+            text(b" Err");
             number(distance as u64);
         }
-        Gone::NotAnImage => text(b" 6"),
-        Gone::BadPlace => text(b" 7"),
+        _ => number(answer.number() as u64),
     }
     moved.node
 }
@@ -184,7 +178,7 @@ fn case(line: &[u8]) {
     text(line_at(line, NAME));
     text(b":");
     let node = answer(line, &labels[..n], &values[..m], &words);
-    text(b", place ");
+    text(b", place");
     number(node as u64);
     text(b"\n");
 }
@@ -200,7 +194,7 @@ fn replay(list: &[u8]) {
 }
 
 fn main() {
-    text(b"the root, place ");
+    text(b"the root, place");
     number(Place::ROOT.node as u64);
     text(b"\n");
     let mut room = [0u8; 4096];

@@ -51,6 +51,24 @@ use Rattle.places.proofs.answers.Answer.is_prefix.Reads as answer-is-pr
 use Rattle.places.proofs.answers.Answer.is_match as answer-is-match
 use Rattle.places.proofs.answers.Answer.is_match.Kinds as answer-is-match-kinds
 use Rattle.places.proofs.answers.Answer.is_match.Reads as answer-is-match-reads
+use Rattle.places.proofs.answers.Resumed.number as resumed-number
+use Rattle.places.proofs.answers.Resumed.number.Kinds as resumed-number-kinds
+use Rattle.places.proofs.answers.Resumed.number.Reads as resumed-number-reads
+use Rattle.places.proofs.answers.Valued.number as valued-number
+use Rattle.places.proofs.answers.Valued.number.Kinds as valued-number-kinds
+use Rattle.places.proofs.answers.Valued.number.Reads as valued-number-reads
+use Rattle.places.proofs.answers.Measured.number as measured-number
+use Rattle.places.proofs.answers.Measured.number.Kinds as measured-number-kinds
+use Rattle.places.proofs.answers.Measured.number.Reads as measured-number-reads
+use Rattle.places.proofs.answers.Queried.number as queried-number
+use Rattle.places.proofs.answers.Queried.number.Kinds as queried-number-kinds
+use Rattle.places.proofs.answers.Queried.number.Reads as queried-number-reads
+use Rattle.places.proofs.answers.Followed.number as followed-number
+use Rattle.places.proofs.answers.Followed.number.Kinds as followed-number-kinds
+use Rattle.places.proofs.answers.Followed.number.Reads as followed-number-reads
+use Rattle.places.proofs.answers.Gone.number as gone-number
+use Rattle.places.proofs.answers.Gone.number.Kinds as gone-number-kinds
+use Rattle.places.proofs.answers.Gone.number.Reads as gone-number-reads
 
 module _ (κs : Lfts 0) where
   pub root-determined : (a : ArgsD root.signature κs) (r₁ r₂ : ResD root.signature κs) (s₁ s₂ : AtExit (endedOf 0 root-kinds.ps root-kinds.r) κs)
@@ -126,3 +144,27 @@ module _ (κs : Lfts 0) where
   pub answer-is-match-determined : (a : ArgsD answer-is-match.signature κs) (r₁ r₂ : ResD answer-is-match.signature κs) (s₁ s₂ : AtExit (endedOf 0 answer-is-match-kinds.ps answer-is-match-kinds.r) κs)
       → answer-is-match-reads.Post κs a r₁ s₁ → answer-is-match-reads.Post κs a r₂ s₂ → r₁ ≡ r₂
   answer-is-match-determined a r₁ r₂ s₁ s₂ p q = p ∙ sym q
+
+  pub resumed-number-determined : (a : ArgsD resumed-number.signature κs) (r₁ r₂ : ResD resumed-number.signature κs) (s₁ s₂ : AtExit (endedOf 0 resumed-number-kinds.ps resumed-number-kinds.r) κs)
+      → resumed-number-reads.Post κs a r₁ s₁ → resumed-number-reads.Post κs a r₂ s₂ → r₁ ≡ r₂
+  resumed-number-determined a r₁ r₂ s₁ s₂ p q = p ∙ sym q
+
+  pub valued-number-determined : (a : ArgsD valued-number.signature κs) (r₁ r₂ : ResD valued-number.signature κs) (s₁ s₂ : AtExit (endedOf 0 valued-number-kinds.ps valued-number-kinds.r) κs)
+      → valued-number-reads.Post κs a r₁ s₁ → valued-number-reads.Post κs a r₂ s₂ → r₁ ≡ r₂
+  valued-number-determined a r₁ r₂ s₁ s₂ p q = p ∙ sym q
+
+  pub measured-number-determined : (a : ArgsD measured-number.signature κs) (r₁ r₂ : ResD measured-number.signature κs) (s₁ s₂ : AtExit (endedOf 0 measured-number-kinds.ps measured-number-kinds.r) κs)
+      → measured-number-reads.Post κs a r₁ s₁ → measured-number-reads.Post κs a r₂ s₂ → r₁ ≡ r₂
+  measured-number-determined a r₁ r₂ s₁ s₂ p q = p ∙ sym q
+
+  pub queried-number-determined : (a : ArgsD queried-number.signature κs) (r₁ r₂ : ResD queried-number.signature κs) (s₁ s₂ : AtExit (endedOf 0 queried-number-kinds.ps queried-number-kinds.r) κs)
+      → queried-number-reads.Post κs a r₁ s₁ → queried-number-reads.Post κs a r₂ s₂ → r₁ ≡ r₂
+  queried-number-determined a r₁ r₂ s₁ s₂ p q = p ∙ sym q
+
+  pub followed-number-determined : (a : ArgsD followed-number.signature κs) (r₁ r₂ : ResD followed-number.signature κs) (s₁ s₂ : AtExit (endedOf 0 followed-number-kinds.ps followed-number-kinds.r) κs)
+      → followed-number-reads.Post κs a r₁ s₁ → followed-number-reads.Post κs a r₂ s₂ → r₁ ≡ r₂
+  followed-number-determined a r₁ r₂ s₁ s₂ p q = p ∙ sym q
+
+  pub gone-number-determined : (a : ArgsD gone-number.signature κs) (r₁ r₂ : ResD gone-number.signature κs) (s₁ s₂ : AtExit (endedOf 0 gone-number-kinds.ps gone-number-kinds.r) κs)
+      → gone-number-reads.Post κs a r₁ s₁ → gone-number-reads.Post κs a r₂ s₂ → r₁ ≡ r₂
+  gone-number-determined a r₁ r₂ s₁ s₂ p q = p ∙ sym q

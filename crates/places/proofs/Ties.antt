@@ -16,6 +16,7 @@ use denote.Ref.{now}
 use denote.Triple.Entry.{Args, Res}
 use denote.Triple.Clauses.{AtExit}
 use Rattle.keymap.specs.Contract.{Tells}
+use Rattle.keymap.specs.Answers.{answerNumber}
 use Rattle.keymap.specs.Key.{Key}
 use Rattle.keymap.specs.Image.{Image}
 use Rattle.image.specs.Meaning.{imageIn}
@@ -51,6 +52,18 @@ use Rattle.places.proofs.answers.Answer.is_prefix.Kinds as answer-is-pr
 use Rattle.places.proofs.answers.Answer.is_prefix.Reads as answer-is-prefix-reads
 use Rattle.places.proofs.answers.Answer.is_match.Kinds as answer-is-match-kinds
 use Rattle.places.proofs.answers.Answer.is_match.Reads as answer-is-match-reads
+use Rattle.places.proofs.answers.Resumed.number.Kinds as resumed-number-kinds
+use Rattle.places.proofs.answers.Resumed.number.Reads as resumed-number-reads
+use Rattle.places.proofs.answers.Valued.number.Kinds as valued-number-kinds
+use Rattle.places.proofs.answers.Valued.number.Reads as valued-number-reads
+use Rattle.places.proofs.answers.Measured.number.Kinds as measured-number-kinds
+use Rattle.places.proofs.answers.Measured.number.Reads as measured-number-reads
+use Rattle.places.proofs.answers.Queried.number.Kinds as queried-number-kinds
+use Rattle.places.proofs.answers.Queried.number.Reads as queried-number-reads
+use Rattle.places.proofs.answers.Followed.number.Kinds as followed-number-kinds
+use Rattle.places.proofs.answers.Followed.number.Reads as followed-number-reads
+use Rattle.places.proofs.answers.Gone.number.Kinds as gone-number-kinds
+use Rattle.places.proofs.answers.Gone.number.Reads as gone-number-reads
 
 pub root-says : Tells 0 root-kinds.ps root-kinds.r root-reads.Post (λ κs a r s. r ≡ placeAt 1)
 root-says κs a r s p = p .0
@@ -84,6 +97,24 @@ answer-is-prefix-says κs a r s p = p
 
 pub answer-is-match-says : Tells 0 answer-is-match-kinds.ps answer-is-match-kinds.r answer-is-match-reads.Post (λ κs a r s. r ≡ tellsMatch (a .0))
 answer-is-match-says κs a r s p = p
+
+pub resumed-number-says : Tells 0 resumed-number-kinds.ps resumed-number-kinds.r resumed-number-reads.Post (λ κs a r s. r ≡ answerNumber (saidResumed (a .0)))
+resumed-number-says κs a r s p = p
+
+pub valued-number-says : Tells 0 valued-number-kinds.ps valued-number-kinds.r valued-number-reads.Post (λ κs a r s. r ≡ answerNumber (saidValued (a .0)))
+valued-number-says κs a r s p = p
+
+pub measured-number-says : Tells 0 measured-number-kinds.ps measured-number-kinds.r measured-number-reads.Post (λ κs a r s. r ≡ answerNumber (saidMeasured (a .0)))
+measured-number-says κs a r s p = p
+
+pub queried-number-says : Tells 0 queried-number-kinds.ps queried-number-kinds.r queried-number-reads.Post (λ κs a r s. r ≡ answerNumber (saidQueried (a .0)))
+queried-number-says κs a r s p = p
+
+pub followed-number-says : Tells 0 followed-number-kinds.ps followed-number-kinds.r followed-number-reads.Post (λ κs a r s. r ≡ answerNumber (saidFollowed (a .0)))
+followed-number-says κs a r s p = p
+
+pub gone-number-says : Tells 0 gone-number-kinds.ps gone-number-kinds.r gone-number-reads.Post (λ κs a r s. r ≡ answerNumber (saidGone (a .0)))
+gone-number-says κs a r s p = p
 
 -- ---- calls that are lent a place: the one clause of the contract is a promise, and a promise is an answer and a node
 

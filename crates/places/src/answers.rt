@@ -1,6 +1,8 @@
 // A place, and what the calls on it answer.
 ghost use mathlib.Core.Path.{_≡_};
-ghost use Rattle.places.specs.Incremental.{tellsPrefix, tellsMatch, placeAt};
+ghost use Rattle.keymap.specs.Answers.{answerNumber};
+ghost use Rattle.places.specs.Incremental.{tellsPrefix, tellsMatch, placeAt, saidQueried, saidFollowed, saidGone};
+ghost use Rattle.places.specs.Places.{saidResumed, saidValued, saidMeasured};
 
 // Where a search stands: a node's number, from 1 to n+1.
 pub struct Place {
@@ -28,6 +30,19 @@ pub enum Resumed {
     BadPlace,
 }
 
+impl Resumed {
+    // The number of a refusal, 0 where there is none.
+    pub fn number(self) -> u32
+        ensures { λ r. ⌜ r ≡ answerNumber (saidResumed self) ⌝ }
+    {
+        match self {
+            Resumed::At(_) => 0,
+            Resumed::NotAnImage => 6,
+            Resumed::BadPlace => 7,
+        }
+    }
+}
+
 // What a place's path has.
 pub enum Valued {
     Value(u32),
@@ -39,6 +54,20 @@ pub enum Valued {
     BadPlace,
 }
 
+impl Valued {
+    // The number of a refusal, 0 where there is none.
+    pub fn number(self) -> u32
+        ensures { λ r. ⌜ r ≡ answerNumber (saidValued self) ⌝ }
+    {
+        match self {
+            Valued::Value(_) => 0,
+            Valued::NoValue => 0,
+            Valued::NotAnImage => 6,
+            Valued::BadPlace => 7,
+        }
+    }
+}
+
 // How long a place's path is.
 pub enum Measured {
     Length(usize),
@@ -46,6 +75,19 @@ pub enum Measured {
     NotAnImage,
     // The place is no node of the image.
     BadPlace,
+}
+
+impl Measured {
+    // The number of a refusal, 0 where there is none.
+    pub fn number(self) -> u32
+        ensures { λ r. ⌜ r ≡ answerNumber (saidMeasured self) ⌝ }
+    {
+        match self {
+            Measured::Length(_) => 0,
+            Measured::NotAnImage => 6,
+            Measured::BadPlace => 7,
+        }
+    }
 }
 
 // What a path is: a prefix of longer keys, a key, or both.
@@ -88,6 +130,20 @@ pub enum Queried {
     BadPlace,
 }
 
+impl Queried {
+    // The number of a refusal, 0 where there is none.
+    pub fn number(self) -> u32
+        ensures { λ r. ⌜ r ≡ answerNumber (saidQueried self) ⌝ }
+    {
+        match self {
+            Queried::Found(_) => 0,
+            Queried::NoMatch => 0,
+            Queried::NotAnImage => 6,
+            Queried::BadPlace => 7,
+        }
+    }
+}
+
 // A query by several labels.
 pub enum Followed {
     Ok(Answer),
@@ -97,6 +153,20 @@ pub enum Followed {
     NotAnImage,
     // The place is no node of the image.
     BadPlace,
+}
+
+impl Followed {
+    // The number of a refusal, 0 where there is none.
+    pub fn number(self) -> u32
+        ensures { λ r. ⌜ r ≡ answerNumber (saidFollowed self) ⌝ }
+    {
+        match self {
+            Followed::Ok(_) => 0,
+            Followed::Err(_) => 0,
+            Followed::NotAnImage => 6,
+            Followed::BadPlace => 7,
+        }
+    }
 }
 
 // A move to the longest common prefix of the longer keys that begin with a place's path.
@@ -109,6 +179,20 @@ pub enum Gone {
     NotAnImage,
     // The place is no node of the image.
     BadPlace,
+}
+
+impl Gone {
+    // The number of a refusal, 0 where there is none.
+    pub fn number(self) -> u32
+        ensures { λ r. ⌜ r ≡ answerNumber (saidGone self) ⌝ }
+    {
+        match self {
+            Gone::Ok(_) => 0,
+            Gone::Err(_) => 0,
+            Gone::NotAnImage => 6,
+            Gone::BadPlace => 7,
+        }
+    }
 }
 
 // An answer, and the node where the place is left.

@@ -3,6 +3,7 @@
 use mathlib.Core.Path.{_≡_}
 use denote.Ref.{now}
 use Rattle.keymap.specs.Contract.{Tells}
+use Rattle.keymap.specs.Answers.{answerNumber}
 use Rattle.image.specs.Meaning.{imageIn}
 use Rattle.searches.specs.Answers.{saidLooked, saidPrefixed, saidLongest, saidCommon}
 use Rattle.searches.specs.Exact.{exactSays, setValues, isPrefixSays}
@@ -23,6 +24,14 @@ use Rattle.searches.proofs.common_prefixes.common_prefix_part.Kinds as 
 use Rattle.searches.proofs.common_prefixes.common_prefix_part.Reads as common-prefix-part-reads
 use Rattle.searches.proofs.prefix.longest_prefix.Kinds as longest-prefix-kinds
 use Rattle.searches.proofs.prefix.longest_prefix.Reads as longest-prefix-reads
+use Rattle.searches.proofs.answers.Looked.number.Kinds as looked-number-kinds
+use Rattle.searches.proofs.answers.Looked.number.Reads as looked-number-reads
+use Rattle.searches.proofs.answers.Prefixed.number.Kinds as prefixed-number-kinds
+use Rattle.searches.proofs.answers.Prefixed.number.Reads as prefixed-number-reads
+use Rattle.searches.proofs.answers.Longest.number.Kinds as longest-number-kinds
+use Rattle.searches.proofs.answers.Longest.number.Reads as longest-number-reads
+use Rattle.searches.proofs.answers.Common.number.Kinds as common-number-kinds
+use Rattle.searches.proofs.answers.Common.number.Reads as common-number-reads
 
 pub exact-match-says : Tells 4 exact-match-kinds.ps exact-match-kinds.r exact-match-reads.Post (λ κs a r s. saidLooked r ≡ exactSays (imageIn (a .0) (a .1 .0) (a .1 .1 .0)) (now (a .1 .1 .1 .0)))
 exact-match-says κs a r s p = p
@@ -44,3 +53,15 @@ common-prefix-part-says κs a r s p = p
 
 pub longest-prefix-says : Tells 5 longest-prefix-kinds.ps longest-prefix-kinds.r longest-prefix-reads.Post (λ κs a r s. (saidLongest r ≡ longestSays (imageIn (a .0) (a .1 .0) (a .1 .1 .0)) (now (a .1 .1 .1 .0)) (now (a .1 .1 .1 .1 .0))) × (now (s .1 .1 .1 .1 .0) ≡ longestOut (imageIn (a .0) (a .1 .0) (a .1 .1 .0)) (now (a .1 .1 .1 .0)) (now (a .1 .1 .1 .1 .0))))
 longest-prefix-says κs a r s p = p
+
+pub looked-number-says : Tells 0 looked-number-kinds.ps looked-number-kinds.r looked-number-reads.Post (λ κs a r s. r ≡ answerNumber (saidLooked (a .0)))
+looked-number-says κs a r s p = p
+
+pub prefixed-number-says : Tells 0 prefixed-number-kinds.ps prefixed-number-kinds.r prefixed-number-reads.Post (λ κs a r s. r ≡ answerNumber (saidPrefixed (a .0)))
+prefixed-number-says κs a r s p = p
+
+pub longest-number-says : Tells 0 longest-number-kinds.ps longest-number-kinds.r longest-number-reads.Post (λ κs a r s. r ≡ answerNumber (saidLongest (a .0)))
+longest-number-says κs a r s p = p
+
+pub common-number-says : Tells 0 common-number-kinds.ps common-number-kinds.r common-number-reads.Post (λ κs a r s. r ≡ answerNumber (saidCommon (a .0)))
+common-number-says κs a r s p = p

@@ -1,4 +1,7 @@
 // What the searches answer.
+ghost use mathlib.Core.Path.{_≡_};
+ghost use Rattle.keymap.specs.Answers.{answerNumber};
+ghost use Rattle.searches.specs.Answers.{saidLooked, saidPrefixed, saidLongest, saidCommon};
 
 // What a key has: `exact_match` and `exact_match_untested`, and `set_value` with what it had before.
 pub enum Looked {
@@ -10,12 +13,38 @@ pub enum Looked {
     NotAnImage,
 }
 
+impl Looked {
+    // The number of a refusal, 0 where there is none.
+    pub fn number(self) -> u32
+        ensures { λ r. ⌜ r ≡ answerNumber (saidLooked self) ⌝ }
+    {
+        match self {
+            Looked::Value(_) => 0,
+            Looked::NoMatch => 0,
+            Looked::NotAnImage => 6,
+        }
+    }
+}
+
 // Whether some key begins with a query and is longer.
 pub enum Prefixed {
     Yes,
     No,
     // The lent image is no map's image.
     NotAnImage,
+}
+
+impl Prefixed {
+    // The number of a refusal, 0 where there is none.
+    pub fn number(self) -> u32
+        ensures { λ r. ⌜ r ≡ answerNumber (saidPrefixed self) ⌝ }
+    {
+        match self {
+            Prefixed::Yes => 0,
+            Prefixed::No => 0,
+            Prefixed::NotAnImage => 6,
+        }
+    }
 }
 
 // The longest common prefix of the keys that begin with a query.
@@ -30,10 +59,40 @@ pub enum Longest {
     KeyRoom,
 }
 
+impl Longest {
+    // The number of a refusal, 0 where there is none.
+    pub fn number(self) -> u32
+        ensures { λ r. ⌜ r ≡ answerNumber (saidLongest self) ⌝ }
+    {
+        match self {
+            Longest::Wrote(_) => 0,
+            Longest::NoMatch => 0,
+            Longest::NotAnImage => 6,
+            Longest::KeyRoom => 8,
+        }
+    }
+}
+
 // The shortest key that is a prefix of a query and longer than what was seen.
 pub enum Common {
     Match { length: usize, value: u32 },
     NoMatch,
     // The lent image is no map's image.
     NotAnImage,
+}
+
+impl Common {
+    // The number of a refusal, 0 where there is none.
+    pub fn number(self) -> u32
+        ensures { λ r. ⌜ r ≡ answerNumber (saidCommon self) ⌝ }
+    {
+        match self {
+            Common::Match {
+                length: _,
+                value: _,
+            } => 0,
+            Common::NoMatch => 0,
+            Common::NotAnImage => 6,
+        }
+    }
 }

@@ -8,8 +8,8 @@ pub use Rattle.image.proofs.Determined.{accept-determined, is-image-determined,
 pub use Rattle.lines.proofs.Determined.{tab-line-determined, tab-line-key-determined, next-line-determined, write-line-determined, parsed-number-determined, written-number-determined}
 pub use Rattle.walks.proofs.Determined.{is-node-determined, counts-to-determined, value-at-determined, or-end-determined, stand-at-determined, kids-determined, kid-at-determined, down-determined, glide-determined, entry-matches-determined, smaller-determined, larger-determined, child-within-determined}
 pub use Rattle.descents.proofs.Determined.{walk-determined, end-of-determined}
-pub use Rattle.climbs.proofs.Determined.{perch-at-determined, parent-of-determined as perch-parent-determined, depth-determined, spell-determined, is-below-determined, next-valued-determined}
-pub use Rattle.searches.proofs.Determined.{exact-match-determined, exact-match-untested-determined, set-value-determined, is-prefix-determined, common-prefix-determined, common-prefix-part-determined, longest-prefix-determined}
-pub use Rattle.listings.proofs.Determined.{predictive-search-determined, postfix-search-determined, cursor-key-determined, step-determined, top-determined, finished-determined}
-pub use Rattle.places.proofs.Determined.{root-determined, resume-determined, value-determined, prefix-len-determined, prefix-determined, query-determined, query-until-determined, goto-longest-prefix-determined, peek-determined, query-at-determined, goto-at-determined, query-until-at-determined, answer-is-prefix-determined, answer-is-match-determined}
+pub use Rattle.climbs.proofs.Determined.{perch-at-determined, parent-of-determined as perch-parent-determined, depth-determined, spell-determined, is-below-determined, next-valued-determined, spelled-number-determined}
+pub use Rattle.searches.proofs.Determined.{exact-match-determined, exact-match-untested-determined, set-value-determined, is-prefix-determined, common-prefix-determined, common-prefix-part-determined, longest-prefix-determined, looked-number-determined, prefixed-number-determined, longest-number-determined, common-number-determined}
+pub use Rattle.listings.proofs.Determined.{predictive-search-determined, postfix-search-determined, cursor-key-determined, step-determined, top-determined, finished-determined, started-number-determined, stepped-number-determined}
+pub use Rattle.places.proofs.Determined.{root-determined, resume-determined, value-determined, prefix-len-determined, prefix-determined, query-determined, query-until-determined, goto-longest-prefix-determined, peek-determined, query-at-determined, goto-at-determined, query-until-at-determined, answer-is-prefix-determined, answer-is-match-determined, resumed-number-determined, valued-number-determined, measured-number-determined, queried-number-determined, followed-number-determined, gone-number-determined}
 pub use Rattle.catalogue.proofs.Determined.{answer-determined, begin-determined, next-at-determined, take-read-determined}

@@ -52,8 +52,7 @@ fn stepped(answer: Stepped, held: Held) -> Held {
             word(END);
             hold(held.place, next)
         }
-        Stepped::NotAnImage => refuse(held, 6),
-        Stepped::BadPlace => refuse(held, 7),
+        _ => refuse(held, answer.number()),
     }
 }
 
@@ -64,7 +63,7 @@ fn step(labels: &[u16], values: &[u32], words: &[u64], held: Held) -> Held {
 fn started(answer: Started, held: Held) -> Held {
     match answer {
         Started::At(first) => hold(held.place, first),
-        Started::NotAnImage => refuse(held, 6),
+        _ => refuse(held, answer.number()),
     }
 }
 

@@ -41,12 +41,8 @@ fn tell(answer: Answer) {
 fn resumed(answer: Resumed, here: u32) -> u32 {
     match answer {
         Resumed::At(place) => at(place.node),
-        Resumed::NotAnImage => {
-            refused(6);
-            here
-        }
-        Resumed::BadPlace => {
-            refused(7);
+        _ => {
+            refused(answer.number());
             here
         }
     }
@@ -63,12 +59,8 @@ fn queried(answer: Queried, node: u32) -> u32 {
             word(NONE);
             at(node)
         }
-        Queried::NotAnImage => {
-            refused(6);
-            node
-        }
-        Queried::BadPlace => {
-            refused(7);
+        _ => {
+            refused(answer.number());
             node
         }
     }
@@ -92,12 +84,8 @@ fn query_until(moved: FollowMove) -> u32 {
             number(index as u64);
             at(node)
         }
-        Followed::NotAnImage => {
-            refused(6);
-            node
-        }
-        Followed::BadPlace => {
-            refused(7);
+        _ => {
+            refused(answer.number());
             node
         }
     }
@@ -117,12 +105,8 @@ fn go_on(moved: GotoMove) -> u32 {
             number(distance as u64);
             at(node)
         }
-        Gone::NotAnImage => {
-            refused(6);
-            node
-        }
-        Gone::BadPlace => {
-            refused(7);
+        _ => {
+            refused(answer.number());
             node
         }
     }
@@ -132,20 +116,19 @@ fn valued(answer: Valued) {
     match answer {
         Valued::Value(found) => number(found as u64),
         Valued::NoValue => word(NONE),
-        Valued::NotAnImage => refused(6),
-        Valued::BadPlace => refused(7),
+        _ => refused(answer.number()),
     }
 }
 
 // The length of the path, then the path.
 fn whole_prefix(query: &[u8], labels: &[u16], values: &[u32], words: &[u64], held: Held) {
-    match trie::place::prefix_len(labels, values, words, Place { node: held.place }) {
+    let answer = trie::place::prefix_len(labels, values, words, Place { node: held.place });
+    match answer {
         Measured::Length(length) => {
             number(length as u64);
             spell(b'X', LONGEST, query, labels, values, words, held);
         }
-        Measured::NotAnImage => refused(6),
-        Measured::BadPlace => refused(7),
+        _ => refused(answer.number()),
     }
 }
 

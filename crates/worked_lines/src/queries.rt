@@ -26,26 +26,22 @@ fn told(answer: Looked) -> u64 {
     }
 }
 
-fn say(told: u64) {
-    if told == NO_MATCH {
-        word(NONE);
-        return;
+fn say(answer: Looked) {
+    match answer {
+        Looked::Value(v) => number(v as u64),
+        Looked::NoMatch => word(NONE),
+        _ => refused(answer.number()),
     }
-    if told == NO_IMAGE {
-        refused(6);
-        return;
-    }
-    number(told);
 }
 
 // The exact match, and behind it what the lookup that does not test the image tells, if that is another answer of an
 // image that is accepted.
 fn exact(labels: &[u16], values: &[u32], words: &[u64], query: &[u8]) {
-    let tested = told(trie::exact_match(labels, values, words, query));
+    let tested = trie::exact_match(labels, values, words, query);
     say(tested);
-    let untested = told(trie::exact_match_untested(labels, values, words, query));
-    if tested != NO_IMAGE {
-        if untested != tested {
+    let untested = trie::exact_match_untested(labels, values, words, query);
+    if tested.number() == 0 {
+        if told(untested) != told(tested) {
             say(untested);
         }
     }
@@ -95,7 +91,7 @@ fn prefixed(answer: Prefixed) {
     match answer {
         Prefixed::Yes => word(YES),
         Prefixed::No => word(NO),
-        Prefixed::NotAnImage => refused(6),
+        _ => refused(answer.number()),
     }
 }
 
@@ -111,8 +107,8 @@ fn common(answer: Common) -> usize {
             word(NONE);
             0
         }
-        Common::NotAnImage => {
-            refused(6);
+        _ => {
+            refused(answer.number());
             0
         }
     }
@@ -142,7 +138,7 @@ fn common_all(labels: &[u16], values: &[u32], words: &[u64], query: &[u8]) {
 pub fn answer(letter: u8, n: u32, query: &[u8], labels: &[u16], values: &[u32], words: &[u64]) {
     match letter {
         b'e' | b'E' => exact(labels, values, words, query),
-        b'j' | b'J' => say(told(trie::exact_match_untested(labels, values, words, query))),
+        b'j' | b'J' => say(trie::exact_match_untested(labels, values, words, query)),
         b'T' => table(labels, values, n as u64),
         b'y' => prefixed(trie::is_prefix(labels, values, words, query)),
         b'c' => common_all(labels, values, words, query),
@@ -157,5 +153,5 @@ pub fn answer(letter: u8, n: u32, query: &[u8], labels: &[u16], values: &[u32], 
 }
 
 pub fn set_value(n: u32, query: &[u8], labels: &[u16], values: &mut [u32], words: &[u64]) {
-    say(told(trie::set_value(labels, values, words, query, n)));
+    say(trie::set_value(labels, values, words, query, n));
 }

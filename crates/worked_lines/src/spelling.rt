@@ -19,16 +19,8 @@ fn spelled(answer: Spelled) -> usize {
             number(length as u64);
             length
         }
-        Spelled::NotAnImage => {
-            refused(6);
-            0
-        }
-        Spelled::BadPlace => {
-            refused(7);
-            0
-        }
-        Spelled::KeyRoom => {
-            refused(8);
+        _ => {
+            refused(answer.number());
             0
         }
     }
@@ -44,12 +36,8 @@ fn longest(answer: Longest) -> usize {
             word(NONE);
             0
         }
-        Longest::NotAnImage => {
-            refused(6);
-            0
-        }
-        Longest::KeyRoom => {
-            refused(8);
+        _ => {
+            refused(answer.number());
             0
         }
     }

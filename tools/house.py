@@ -4,8 +4,8 @@
     python3 -B tools/house.py
 
 says, in a second, which modules of a crate need themselves by way of others, which lines of `specs/` and `src/` are longer than
-120 characters (a text that the code has as a literal may be), and which name two files of `specs/` define. It ends with 1 where
-there is any.
+120 characters (a line of code that is a literal alone may be), and which name two files of `specs/`, or one of them and a type of
+a library's `src/`, define for others. It ends with 1 where there is any.
 """
 import re
 import sys
@@ -45,13 +45,18 @@ def circles(found):
 
 def wide(file):
     for number, line in enumerate(file.read_text('utf-8').split('\n'), 1):
-        if len(line) > WIDTH and 'b"' not in line:
+        if len(line) > WIDTH and not (file.suffix == '.rt' and line.lstrip().startswith('b"')):
             yield f'{file.relative_to(CRATES)}:{number}: {len(line)} characters'
 
 
 def defined(file):
     """The names that a file of `specs/` defines for others."""
     return set(re.findall(r'^(?:abbrev |unfoldable )?pub (?!mod |use )(?:record |data )?([^\s:({]+)', file.read_text('utf-8'), re.M))
+
+
+def types(file):
+    """The types that a file of `src/` declares for others."""
+    return set(re.findall(r'^pub (?:enum|struct) (\w+)', file.read_text('utf-8'), re.M))
 
 
 def main():
@@ -61,10 +66,10 @@ def main():
         if met:
             amiss.append(f'{crate.name}: {", ".join(met)} need each other')
         specs = sorted((crate / 'specs').rglob('*.antt'))
-        for file in [*sorted((crate / 'src').rglob('*.rt')), *specs]:
+        code = sorted((crate / 'src').rglob('*.rt'))
+        for file in [*code, *specs]:
             amiss += wide(file)
-        for file in specs:
-            for name in defined(file):
+            for name in defined(file) if file in specs else types(file) if (crate / 'src' / 'lib.rt').exists() else ():
                 places[name].append(str(file.relative_to(CRATES)))
     amiss += [f'{name} is defined in {" and ".join(files)}' for name, files in sorted(places.items()) if len(files) > 1]
     for line in amiss:

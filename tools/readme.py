@@ -3,8 +3,8 @@
 
     python3 tools/readme.py
 
-says which of its blocks shows something else, and fails then. Each `rust` block stands word for word in the example's source, one of them
-has its `main`, and the `text` blocks are, in this order, what the example writes, the sample of the catalogue program, and its listing.
+says which of its blocks shows something else, and fails then. Each `rust` block is whole items of the example's source, word for word, two of them
+have its `main` and `list`, and the `text` blocks are, in this order, what the example writes, the sample of the catalogue program, and its listing.
 
     python3 tools/readme.py listing
 
@@ -37,10 +37,11 @@ def listing(lines):
 def faults():
     codes, texts = shown('rust'), shown('text')
     for code in codes:
-        if f'\n{code}' not in text(SOURCE):
+        if f'\n\n{code}\n' not in text(SOURCE) + '\n':
             yield f'{SOURCE} does not have the block that begins: {code.splitlines()[0]}'
-    if not any('\nfn main() {\n' in f'\n{code}' for code in codes):
-        yield f'no block shows main of {SOURCE}'
+    for name in ('main', 'list'):
+        if not any(f'\nfn {name}(' in f'\n{code}' for code in codes):
+            yield f'no block shows {name} of {SOURCE}'
     wanted = ((WRITTEN, text(WRITTEN)), (SAMPLE, text(SAMPLE)), (f'the listing of {SAMPLE}', listing(text(SAMPLE))))
     if len(texts) != len(wanted):
         yield f'it has {len(texts)} text blocks, and {len(wanted)} are known'

@@ -1,8 +1,7 @@
 -- What a text is answered, by the text and the pool's capacity alone (01, module 8): "A line that breaks the rule is 9
--- and is never pushed, so 9 comes
--- before 3 and 4 here. The first refusal stops it". What is pushed so far is told by its map; a line is 3 for the empty
--- key, and 4 exactly when the
--- distinct nonempty prefixes, its own counted in, would exceed the capacity.
+-- and is never pushed, so 9 comes before 3 and 4 here. The first refusal stops it". What is pushed so far is told by
+-- its map; a line is 3 for the empty key, and 4 exactly when the distinct nonempty prefixes, its own counted in, would
+-- exceed the capacity.
 --
 --     mapLineSays, mapLineAfter   one line, by its entry: the refusal's number, or 0, and the map with the entry
 --                                 inserted

@@ -1,7 +1,6 @@
 // Going down along a query by those words of the bits that lie inside as a whole: a walk keeps the word that has its
-// node's zero, with the zeros up to the end
-// of each of its bytes, and goes on from there. Where a zero stands in none of these words it stops, and
-// `queries::go_on` takes the other steps from the word kept on.
+// node's zero, with the zeros up to the end of each of its bytes, and goes on from there. Where a zero stands in none
+// of these words it stops, and `queries::go_on` takes the other steps from the word kept on.
 ghost use mathlib.Core.Path.{_≡_};
 ghost use Rattle.keymap.specs.Bits.{bit};
 ghost use Rattle.walks.specs.Rule.{walked};

@@ -16,8 +16,8 @@ use trie::Stepped;
 const CAPACITY: usize = 24;
 
 fn main() {
-    // All memory is lent: for each record 5 words, and 5 for the root; for each node a label, a value and a scratch word, and
-    // 2 bits, with 3 more.
+    // All memory is lent: for each record 5 words, and 5 for the root; for each node a label, a value, a scratch word
+    // and 2 bits, with 3 more.
     let mut pool = [0u32; 5 * (CAPACITY + 1)];
     let mut labels = [0u16; CAPACITY];
     let mut values = [0u32; CAPACITY];

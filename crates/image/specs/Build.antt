@@ -3,7 +3,7 @@
 --     buffersFit       no buffer is shorter than needed
 --     buildSays        what build answers
 --     buildLabels, ..  what it leaves of each buffer: a refusal leaves all as they were
---     ofLent           a definition of the four, of the buffers that a contract names
+--     ofLent           one of these, of the four buffers that a contract names
 --     CanQueue, ..     what the loops ask
 -- Assumes nothing.
 use Prim.Native.Nat.{ℕ, _+_, _^_, _≤_, _<_}

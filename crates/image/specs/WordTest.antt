@@ -10,7 +10,7 @@
 --     wordFits        a word's three tests
 --     wordAt          those of an image's word w
 --     Framed          what is known of labels and words before the ones are counted
---     Counted         and before the words are tested
+--     CountedWords    and before the words are tested
 --     WordInside      the entries that a word's tests read are there
 -- Assumes nothing.
 use mathlib.Core.Path.{_≡_}
@@ -86,7 +86,7 @@ pub record Framed (ls ws : List ℕ) : Type 0 where
   pub first : bit ws 0 ≡ 1
   pub second : bit ws 1 ≡ 0
 
-pub record Counted (ls ws : List ℕ) : Type 0 where
+pub record CountedWords (ls ws : List ℕ) : Type 0 where
   pub framed : Framed ls ws
   pub ones : onesBefore (bit ws) (bitsFor (length ls)) ≡ length ls + 1
 

@@ -1,7 +1,6 @@
 // The bits of an image, word by word. Node m is the m-th one, and its parent is the count of zeros before it. A one
-// right after a one is the next
-// sibling of the node before, and a zero right after a zero closes a node without child. Most places of a word are
-// neither, and are passed at once.
+// right after a one is the next sibling of the node before, and a zero right after a zero closes a node without child.
+// Most places of a word are neither, and are passed at once.
 use crate::entries::MARK;
 use louds::WORD_BITS;
 use louds::lowest_one;
@@ -13,7 +12,7 @@ ghost use Rattle.keymap.specs.Limits.{wordBits, mostRecords};
 ghost use Rattle.louds.specs.Digits.{above};
 ghost use Rattle.image.specs.AcceptTest.{labelsRise};
 ghost use Rattle.image.specs.WordTest.{allBelow, parentAt, siblingAt, leafAt, wordFits, wordAt, SiblingsInside};
-ghost use Rattle.image.specs.WordTest.{LeavesInside, WordInside, Counted};
+ghost use Rattle.image.specs.WordTest.{LeavesInside, WordInside, CountedWords};
 
 // At most as many zeros as ones stand before each one of the word. Where the ones before the word are no fewer than the
 // zeros up to its end, that holds of all.
@@ -130,7 +129,7 @@ fn word_fits(labels: &[u16], x: u64, last: u64, at: usize, before: usize, left: 
 
 // Every word fits.
 pub fn words_fit(labels: &[u16], words: &[u64]) -> bool
-    requires { ⌜ Counted (now labels) (now words) ⌝ }
+    requires { ⌜ CountedWords (now labels) (now words) ⌝ }
     ensures { λ r. ⌜ r ≡ allBelow (wordAt (now (labels .entry)) (now (words .entry))) (length (now (words .entry))) ⌝ }
 {
     let len = 2 * labels.len() + 3;

@@ -3,11 +3,9 @@
 // what build answers, the four buffers afterwards, and what the image test says of the first three.
 //
 // The list `cases` has the letters n (these many words are the pool, reset), z (these many words are the pool, as they
-// are), w (words stored
-// into its memory) and p (a push), as tools/oracle/README.md has them, which write nothing; and b and e, a build: the
-// lengths of
-// labels, values, words and scratch, two bytes each, and a name. After e the last entry alone of each buffer is
-// written.
+// are), w (words stored into its memory) and p (a push), as tools/oracle/README.md has them, which write nothing; and b
+// and e, a build: the lengths of labels, values, words and scratch, two bytes each, and a name. After e the last entry
+// alone of each buffer is written.
 ghost use Prim.Native.Nat.{_≤_};
 use image::answers::Built;
 use replay::counts::of_values;

@@ -1,7 +1,6 @@
 -- Listings (01, module 6). "Predictive start gives a cursor over the keys beginning with the query, postfix start over
--- those that are longer; no path gives
--- a finished cursor, and so does an empty set. A step answers the least key of its set above the last one given, as
--- node and value, with the next cursor.
+-- those that are longer; no path gives a finished cursor, and so does an empty set. A step answers the least key of its
+-- set above the last one given, as node and value, with the next cursor.
 -- A step on a finished cursor ends at once, and again each time. After the last key the end comes with a finished
 -- cursor."
 --

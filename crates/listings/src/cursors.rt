@@ -1,7 +1,6 @@
 // Listings, after `src/iter/search_iter.rs` and `src/iter/postfix_iter.rs`. A cursor holds numbers alone, so each call
-// tests the image, and then that the numbers
-// belong to it. The image is tested before anything else: a refused image answers NotAnImage for a finished cursor and
-// for the empty query too.
+// tests the image, and then that the numbers belong to it. The image is tested before anything else: a refused image
+// answers NotAnImage for a finished cursor and for the empty query too.
 // The functions that the calls are made of answer for any slices and numbers (specs/Numbers), and read the first `len`
 // bits.
 ghost use mathlib.Core.Path.{_≡_};

@@ -2,11 +2,9 @@
 // taken to another image.
 //
 // A line of the list `cases` has a letter, q for `query`, u for `query_until`, g for `goto_longest_prefix`; the place's
-// node; an image of at most three
-// nodes, as how many there are, their labels, their values and the word of bits; and the name of the case, which ends
-// with what is asked. The images are
-// the empty map's; A's ("ab" 7, "b" 3); that of "a" 1, "ab" 2, where "a" has the place that it has in A; and the last
-// with one bit too many, which is none.
+// node; an image of at most three nodes, as how many there are, their labels, their values and the word of bits; and
+// the name of the case, which ends with what is asked. The images are the empty map's; A's ("ab" 7, "b" 3); that of "a"
+// 1, "ab" 2, where "a" has the place that it has in A; and the last with one bit too many, which is none.
 ghost use Rattle.image.specs.Meaning.{lentImage};
 ghost use Rattle.places.specs.Incremental.{placeAt, QueryPromise, FollowPromise, GotoPromise};
 use places::Answer;

@@ -1,7 +1,6 @@
 -- Moving from a node by labels, on numbers and on any slices, by the rule of a walk down: what the calls on a place
--- answer, and where they leave it, once they have
--- tested image and number. On an image that some map has, and one of its nodes, it is what the map says
--- (proofs/Laws/Moves).
+-- answer, and where they leave it, once they have tested image and number. On an image that some map has, and one of
+-- its nodes, it is what the map says (proofs/Laws/Moves).
 --
 --     placeNumber   a node's number as a place has it
 --     answerBy      what a node is

@@ -15,7 +15,7 @@ use Rattle.keymap.specs.Label.{mark}
 use Rattle.keymap.specs.Key.{Key, Bytes}
 use Rattle.records.specs.Words.{Pool, recordWords, entry, value, firstChild, nextSibling, parent, lastRecord, usedCount}
 use Rattle.records.specs.Words.{InUse, Node, nextRecord, taken, capacity}
-use Rattle.records.specs.Sound.{Children}
+use Rattle.records.specs.Sound.{ChildChain}
 use Rattle.records.specs.Spelling.{Stops}
 use Rattle.pool.specs.declared.siblings.Slot.{Slot}
 use Rattle.pool.specs.Siblings.{slotOf}
@@ -50,7 +50,7 @@ pub record SoundBut (p : Pool) (e : ℕ) : Type 0 where
   pub within : lastRecord p ≤ capacity p
   pub root : (value p 0 ≡ 0) × (nextSibling p 0 ≡ 0) × (parent p 0 ≡ 0)
   pub fits : (c : ℕ) → InUse p c → FitsBut p e c
-  pub children : (c : ℕ) → Node p c → Children p c
+  pub children : (c : ℕ) → Node p c → ChildChain p c
 
 -- label b can be entered under i: nothing but i is unfinished, i has no such child, and there is room
 pub record CanEnter (p : Pool) (i b : ℕ) : Type 0 where

@@ -1,6 +1,6 @@
 -- Any list of calls on one pool, refused ones among them: what each answers and what is left, by the pool's words; and
--- the same by the map of the keys
--- that were accepted since the last reset, each with its last value, and by the capacity.
+-- the same by the map of the keys that were accepted since the last reset, each with its last value, and by the
+-- capacity.
 --
 --     PoolCall              a reset, a push or a use count
 --     callSays, callPool    what a call answers, and the pool that it leaves

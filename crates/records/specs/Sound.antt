@@ -5,7 +5,7 @@
 --     Chain         the numbers that a step leads to, up to the 0 that ends them
 --     LabelsRise    labels strictly rise
 --     Fits          what is asked of a record in use by its own words
---     Children      what is asked of a record's chain of children
+--     ChildChain    what is asked of a record's chain of children
 -- Assumes nothing.
 use Prim.Native.Nat.{ℕ, _+_, _≤_, _<_}
 use mathlib.Core.Path.{_≡_}
@@ -46,7 +46,7 @@ pub record Fits (p : Pool) (c : ℕ) : Type 0 where
 -- "its first child and the sibling chain from it name exactly the records whose parent it is, each once, labels
 -- strictly rising":
 -- labels that strictly rise name nothing twice
-pub record Children (p : Pool) (c : ℕ) : Type 0 where
+pub record ChildChain (p : Pool) (c : ℕ) : Type 0 where
   pub kids : List ℕ
   pub chain : Chain (nextSibling p) (firstChild p c) kids
   pub rising : LabelsRise p 0 kids
@@ -62,4 +62,4 @@ pub record Sound (p : Pool) : Type 0 where
   pub root : (value p 0 ≡ 0) × (nextSibling p 0 ≡ 0) × (parent p 0 ≡ 0)
   pub fits : (c : ℕ) → InUse p c → Fits p c
   -- "for every record 0 to n"
-  pub children : (c : ℕ) → Node p c → Children p c
+  pub children : (c : ℕ) → Node p c → ChildChain p c

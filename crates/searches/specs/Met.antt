@@ -1,6 +1,5 @@
 -- What two images must share to answer a query alike (02, R-7): "Two images with the same n and bits, agreeing on the
--- entries of the siblings met and on the
--- value found, give the same answer."
+-- entries of the siblings met and on the value found, give the same answer."
 --
 --     counted       of a run of numbers those that count as children of a node
 --     met           the siblings that a walk meets: the counted children of each node from which it goes on

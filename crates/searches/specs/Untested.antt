@@ -1,6 +1,5 @@
 -- R-7's lookup (02, "One lookup without reading the catalogue"): "an exact lookup that refuses 6 only for n above 4,096
--- or lengths that do not fit n. It reads the
--- first 2n+3 bits by this rule", which is `walks/specs/Rule`.
+-- or lengths that do not fit n. It reads the first 2n+3 bits by this rule", which is `walks/specs/Rule`.
 -- Assumes nothing.
 use Prim.Native.Nat.{ℕ}
 use mathlib.Core.Bool.{cond}

@@ -16,6 +16,6 @@ every-image i l =
       tests-list = imageTest-iff i l;
       list-map = accepted-iff i l;
       accepts = accept-means-map i l;
-      refuses = accept-means-none i l;
+      refusal = accept-means-none i l;
       only = λ m c e. ap imageMap (sym e) ∙ imageMap-image m c;
     }

@@ -68,12 +68,12 @@ bad-line line = (
     go h (some e) t = let (p, w) = tabEntry-iff line e .0 t in absurd (h e p w)
 
 pub every-line : EveryLine
-every-line line = record { reads = read-line line; refuses = bad-line line }
+every-line line = record { reads = read-line line; refusal = bad-line line }
 
 pub every-write : EveryWrite
 unfolding writeLineSays writeLineOut over
 every-write e out = record {
-  refuses = (λ h. go h (ltb (length out) (length (tabText e))) refl, λ h. rw (lt-ltb _ _ h));
+  refusal = (λ h. go h (ltb (length out) (length (tabText e))) refl, λ h. rw (lt-ltb _ _ h));
   writes = λ h. (rw (le-ltb _ _ h), rw (le-ltb _ _ h));
 }
   where

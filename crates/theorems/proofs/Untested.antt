@@ -37,7 +37,7 @@ refuses-unfit i q = go (lengthsFit i) refl
 
 pub untested : Untested
 untested = record {
-  refuses = refuses-unfit;
+  refusal = refuses-unfit;
   accepted = λ i l a q. untested-exact i (accepted-mapImage i l a) q;
   alike = untested-alike;
 }

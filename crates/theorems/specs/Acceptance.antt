@@ -21,7 +21,7 @@ pub record Acceptance (i : Image) : Type 0 where
   pub list-map : Accepted i ↔ OfMap i
   -- "NotAnImage .. lent image is no map's image"
   pub accepts : (acceptSays i ≡ 0 ∷ []) ↔ OfMap i
-  pub refuses : (acceptSays i ≡ refuses Refusal.NotAnImage) ↔ (OfMap i → ⊥)
+  pub refusal : (acceptSays i ≡ refuses Refusal.NotAnImage) ↔ (OfMap i → ⊥)
   -- only one map has it, the one that the searches speak of
   pub only : (m : Map) → Catalogue m → image m ≡ i → imageMap i ≡ m
 

@@ -33,14 +33,14 @@ pub record LineCases (line : List ℕ) : Type 0 where
   pub reads : (e : Entry)
       → ((tabLineSays line ≡ 0 ∷ length (e .0) ∷ e .1 ∷ []) × (tabLineKey line ≡ e .0)) ↔ (Plain e × (line ≡ tabLine e))
   -- "BadLine: catalogue line breaks the line rule"
-  pub refuses : (tabLineSays line ≡ refuses Refusal.BadLine) ↔ ((e : Entry) → Plain e → line ≡ tabLine e → ⊥)
+  pub refusal : (tabLineSays line ≡ refuses Refusal.BadLine) ↔ ((e : Entry) → Plain e → line ≡ tabLine e → ⊥)
 
 abbrev pub EveryLine : Type 0
 EveryLine = (line : List ℕ) → LineCases line
 
 -- "KeyRoom", of a line as of a key; else the entry's text, and what lies behind it stays
 pub record WrittenLine (e : Entry) (out : List ℕ) : Type 0 where
-  pub refuses : (writeLineSays e out ≡ refuses Refusal.KeyRoom) ↔ (length out < length (tabText e))
+  pub refusal : (writeLineSays e out ≡ refuses Refusal.KeyRoom) ↔ (length out < length (tabText e))
   pub writes : length (tabText e) ≤ length out
       → (writeLineSays e out ≡ 0 ∷ length (tabText e) ∷ [])
       × (writeLineOut e out ≡ tabText e ++ drop (length (tabText e)) out)

@@ -1,8 +1,8 @@
 -- The lookup that does not read the catalogue (02, R-7): "an exact lookup that refuses 6 only for n above 4,096 or
--- lengths that do not fit n", and else answers by the rule
--- of `walks/specs/Rule` (`untestedSays`). "On accepted images it equals the full exact match, the empty query included.
--- Two images with the same n and bits, agreeing on the
--- entries of the siblings met and on the value found, give the same answer."
+-- lengths that do not fit n", and else answers by the rule of `walks/specs/Rule` (`untestedSays`). "On accepted images
+-- it equals the full exact match, the empty query included.
+-- Two images with the same n and bits, agreeing on the entries of the siblings met and on the value found, give the
+-- same answer."
 -- Assumes nothing.
 use mathlib.Core.Path.{_≡_}
 use mathlib.Core.Logic.{_↔_}
@@ -25,6 +25,6 @@ LengthsFit i =
 
 -- of any three slices and any query
 pub record Untested : Type 0 where
-  pub refuses : (i : Image) (q : Key) → (untestedSays i q ≡ refuses NotAnImage) ↔ (LengthsFit i → ⊥)
+  pub refusal : (i : Image) (q : Key) → (untestedSays i q ≡ refuses NotAnImage) ↔ (LengthsFit i → ⊥)
   pub accepted : (i : Image) → LentSlices i → Accepted i → (q : Key) → untestedSays i q ≡ exactSays i q
   pub alike : (i j : Image) (q : Key) → Alike i j q → untestedSays i q ≡ untestedSays j q

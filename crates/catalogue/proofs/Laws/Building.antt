@@ -1,7 +1,7 @@
 -- Laws of the image that is lent after a build: the fronts of the three buffers are the image of the pool's map.
 --
 --     word-bounded             a pool of 32-bit words is bounded
---     LentImage, lent-image    what is lent of the buffers after an accepted build of a catalogue
+--     LentParts, lent-parts    what is lent of the buffers after an accepted build of a catalogue
 --     build-accepts            a sound pool of the program's length is built in buffers of its lengths
 -- Assumes nothing.
 use mathlib.Core.Path.{_≡_, refl, sym, ap, subst, _∙_}
@@ -108,16 +108,16 @@ built-image p ls vs ws qs n held h =
     }
 
 -- the same of the buffers as a build left them, where w words are lent
-pub record LentImage (p : Pool) (labels values words : List ℕ) (n w : ℕ) : Type 0 where
+pub record LentParts (p : Pool) (labels values words : List ℕ) (n w : ℕ) : Type 0 where
   pub labels-in : n ≤ length labels
   pub values-in : n ≤ length values
   pub words-in : w ≤ length words
   pub is-map : MapImage (asImage (take n labels) (take n values) (take w words))
   pub map-is : imageMap (asImage (take n labels) (take n values) (take w words)) ≡ poolMap p
 
-pub lent-image : (p : Pool) (ls vs ws qs : List ℕ) (n w : ℕ) (labels values words : List ℕ) → w ≡ wordsFor (bitsFor n) → (Sound p → Catalogue (poolMap p)) → 0 ∷ n ∷ [] ≡ buildSays p ls vs ws qs
-    → labels ≡ buildLabels p ls vs ws qs → values ≡ buildValues p ls vs ws qs → words ≡ buildWords p ls vs ws qs → LentImage p labels values words n w
-lent-image p ls vs ws qs n w labels values words sized held h l v d =
+pub lent-parts : (p : Pool) (ls vs ws qs : List ℕ) (n w : ℕ) (labels values words : List ℕ) → w ≡ wordsFor (bitsFor n) → (Sound p → Catalogue (poolMap p)) → 0 ∷ n ∷ [] ≡ buildSays p ls vs ws qs
+    → labels ≡ buildLabels p ls vs ws qs → values ≡ buildValues p ls vs ws qs → words ≡ buildWords p ls vs ws qs → LentParts p labels values words n w
+lent-parts p ls vs ws qs n w labels values words sized held h l v d =
     let b = built-image p ls vs ws qs n held h in
     let shows : asImage (take n labels) (take n values) (take w words) ≡ image (poolMap p) = (λ i. asImage (take n (l i)) (take n (v i)) (take (sized i) (d i))) ∙ b .shows in
     record {

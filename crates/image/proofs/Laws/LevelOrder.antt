@@ -26,7 +26,7 @@ use lib.Dec.{eqb}
 use borrow.Author.Tests.{eq-eqb, ne-eqb}
 use Rattle.keymap.proofs.Laws.Children.{flatMap-append}
 use Rattle.records.specs.Words.{Pool, firstChild, nextSibling, parent, usedCount, InUse, Node}
-use Rattle.records.specs.Sound.{Among, Chain, Children, Sound}
+use Rattle.records.specs.Sound.{Among, Chain, ChildChain, Sound}
 use Rattle.records.proofs.Laws.Distinct.{Once, in-append, in-left, in-right, once-append}
 use Rattle.records.proofs.Laws.Sound.{rises-distinct}
 use Rattle.records.proofs.Laws.Reached.{used-at-most, used-at-least, reached}
@@ -100,13 +100,13 @@ getD-in (x ∷ xs) zero l = inl refl
 getD-in (x ∷ xs) (suc i) l = inr (getD-in xs i (omega arith))
 
 module _ (p : Pool) (s : Sound p) where
-  pub child-records : (c : ℕ) (k : Children p c) → childRecords p c ≡ k .kids
+  pub child-records : (c : ℕ) (k : ChildChain p c) → childRecords p c ≡ k .kids
   unfolding childRecords
   child-records c k =
       siblings-chain p (k .kids) (usedCount p) (firstChild p c) (k .chain) (used-at-most p (k .kids) (rises-distinct p 0 (k .kids) (k .rising)) (λ x m. k .only x m .0))
 
   module _ (c : ℕ) (v : Node p c) where
-    abbrev asked : Children p c
+    abbrev asked : ChildChain p c
     asked = s .children c v
 
     pub child-chain : Chain (nextSibling p) (firstChild p c) (childRecords p c)

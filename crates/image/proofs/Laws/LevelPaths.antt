@@ -25,7 +25,7 @@ use Rattle.keymap.proofs.Laws.Prefixes.{prefixes-iff}
 use Rattle.keymap.proofs.Laws.Children.{flatMap-append, forest-children}
 use Rattle.keymap.proofs.Laws.Paths.{childrenIn-iff, childrenIn-ordered, below-label}
 use Rattle.records.specs.Words.{Pool, label, parent, usedCount, InUse, Node}
-use Rattle.records.specs.Sound.{Among, LabelsRise, Children, Sound}
+use Rattle.records.specs.Sound.{Among, LabelsRise, ChildChain, Sound}
 use Rattle.records.specs.Spelling.{Spells, recordPath}
 use Rattle.records.specs.Meaning.{poolForest, poolMap}
 use Rattle.records.proofs.Laws.Spelling.{spells-child, spells-cut, spells-one-record, path-spells, path-only}
@@ -99,7 +99,7 @@ module _ (p : Pool) (s : Sound p) where
       ap (map (recordPath p)) (child-records p s c k)
       ∙ ordered-one Below below-asym (map (recordPath p) (k .kids)) (childrenIn kept (recordPath p c)) (paths-rise c n (k .kids) 0 (k .rising) (k .only)) (childrenIn-ordered kept (map-rising p s) (recordPath p c)) same
     where
-      k : Children p c
+      k : ChildChain p c
       k = s .children c n
 
       forth : (q : Key) → members.In q (map (recordPath p) (k .kids)) → members.In q (childrenIn kept (recordPath p c))

@@ -38,7 +38,7 @@ use Rattle.louds.specs.Digits.{digit, complement}
 use Rattle.louds.proofs.Laws.Digits.{digit-either, digit-half, digit-shr, digit-beyond, digit-or, digit-mod, digit-mod-none, complement-digit, shifted-low, and-both, and-one}
 use Rattle.image.specs.AcceptTest.{entryFits, labelsRise, childlessFits, passesFrom}
 use Rattle.image.specs.Meaning.{asImage}
-use Rattle.image.specs.WordTest.{allBelow, entriesFit, parentAt, siblingAt, leafAt, zerosOf, prevOf, lastBefore, wordFits, wordAt, WordInside, Counted, Framed}
+use Rattle.image.specs.WordTest.{allBelow, entriesFit, parentAt, siblingAt, leafAt, zerosOf, prevOf, lastBefore, wordFits, wordAt, WordInside, CountedWords, Framed}
 use Rattle.image.proofs.Laws.AcceptTest.{labelsRise-is, bitFits-one, bitFits-closing, bitFits-childless}
 use Rattle.image.proofs.Laws.BitTests.{both, oneFits-made, entryFits-told, entryFits-made}
 use Rattle.image.proofs.Laws.Passed.{FitsAfter, passes-told, passes-made, Passed, passed-small, passed-plain, one-after, start-same}
@@ -141,7 +141,7 @@ module _ (ls ws : List ℕ) where
     sibling : b p ≡ 1 → previous b p ≡ 1 → labelsRise ls (onesBefore b p - 2) ≡ true
     leaf : p < bitsFor n → b p ≡ 0 → previous b p ≡ 0 → childlessFits ls (zerosBefore b p) ≡ true
 
-  module _ (k : Counted ls ws) (w : ℕ) where
+  module _ (k : CountedWords ls ws) (w : ℕ) where
     abbrev at : ℕ
     at = w * wordBits
 
@@ -353,7 +353,7 @@ module _ (ls vs ws : List ℕ) where
   entries-stop f h =
       false-by pass (λ t. not-both (entriesFit ls vs) (all-made (λ e. entryFits (getD ls e 0) (getD vs e 0)) (length ls) (entry-passed (framed-passed f t))) h)
 
-  module _ (k : Counted ls ws) where
+  module _ (k : CountedWords ls ws) where
     place-of : Passed (asImage ls vs ws) → (p : ℕ) → Place ls ws p
     unfolding previous
     place-of t zero = record {

@@ -22,7 +22,7 @@ use Rattle.keymap.specs.Limits.{byteLimit}
 use Rattle.keymap.specs.Label.{mark, labelIn}
 use Rattle.keymap.specs.Key.{Key}
 use Rattle.records.specs.Words.{Pool, recordWords, word, entry, label, value, firstChild, nextSibling, parent, lastRecord, usedCount, InUse, Node, nextRecord, taken, capacity}
-use Rattle.records.specs.Sound.{Among, Fits, Children, Sound}
+use Rattle.records.specs.Sound.{Among, Fits, ChildChain, Sound}
 use Rattle.records.specs.Spelling.{Stops}
 use Rattle.records.proofs.Laws.Distinct.{equal-or-not}
 use Rattle.records.proofs.Laws.Words.{word-put-same, node-within, parent-node, next-last, next-unused, next-fits, length-taken, word-taken, last-taken, in-use-taken, in-use-stays, next-in-use, count-taken}
@@ -114,7 +114,7 @@ module _ (p q : Pool) (i b m a x : ℕ) (s : SoundBut p i) (node : Node p i) (by
     (known-or-entered : (c : ℕ) → InUse q c → InUse p c ⊎ (c ≡ m)) (stays : (c : ℕ) → InUse p c → InUse q c) (used : InUse q m) (more : lastRecord p ≤ lastRecord q)
     (after : (a ≡ 0) ⊎ Among a (s .children i node .kids)) (upto : Node p x) (seeks : slot a x ≡ slotFrom p (lastRecord p) 0 (firstChild p i) b)
     (absent : (k : ℕ) → Among k (s .children i node .kids) → label p k ≡ b → ⊥) where
-  abbrev K : Children p i
+  abbrev K : ChildChain p i
   K = s .children i node
 
   a-child : (a ≡ 0 → ⊥) → InUse p a × (parent p a ≡ i)
@@ -145,7 +145,7 @@ module _ (p q : Pool) (i b m a x : ℕ) (s : SoundBut p i) (node : Node p i) (by
   own-label = ap labelIn (A .own-entry) ∙ mod-eq-of-lt byte
 
   -- the chain of i has m more
-  here : Children q i
+  here : ChildChain q i
   here = record {
     kids = placed p b m (K .kids);
     chain =
@@ -160,7 +160,7 @@ module _ (p q : Pool) (i b m a x : ℕ) (s : SoundBut p i) (node : Node p i) (by
   }
 
   -- the chain of any other is as it was
-  there : (c : ℕ) → Node p c → (c ≡ i → ⊥) → Children q c
+  there : (c : ℕ) → Node p c → (c ≡ i → ⊥) → ChildChain q c
   there c h ne =
       let k = s .children c h in
       record {
@@ -175,7 +175,7 @@ module _ (p q : Pool) (i b m a x : ℕ) (s : SoundBut p i) (node : Node p i) (by
       }
 
   -- the record entered has no child: no parent is a record that was not in use
-  alone : Children q m
+  alone : ChildChain q m
   alone = record {
     kids = [];
     chain = A .own-child;
@@ -233,11 +233,11 @@ module _ (p q : Pool) (i b m a x : ℕ) (s : SoundBut p i) (node : Node p i) (by
     within = within;
     root = (value-same 0 (inl refl) ∙ s .root .0, sibling-same 0 (inl refl) (λ u v. v (sym u)) ∙ s .root .1, parent-same 0 (inl refl) ∙ s .root .2);
     fits = λ c u. ⊎-elim (λ v. kept-fits c v) (λ (z : c ≡ m). subst (λ (k : ℕ). FitsBut q m k) (sym z) own-fits) (known-or-entered c u);
-    children = λ c h. ⊎-elim (λ (z : c ≡ 0). known c (inl z)) (λ u. ⊎-elim (λ v. known c (inr v)) (λ (z : c ≡ m). subst (λ (k : ℕ). Children q k) (sym z) alone) (known-or-entered c u)) h;
+    children = λ c h. ⊎-elim (λ (z : c ≡ 0). known c (inl z)) (λ u. ⊎-elim (λ v. known c (inr v)) (λ (z : c ≡ m). subst (λ (k : ℕ). ChildChain q k) (sym z) alone) (known-or-entered c u)) h;
   }
     where
-      known : (c : ℕ) → Node p c → Children q c
-      known c h = ⊎-elim (λ (e : c ≡ i). subst (λ (k : ℕ). Children q k) (sym e) here) (λ ne. there c h ne) (equal-or-not c i)
+      known : (c : ℕ) → Node p c → ChildChain q c
+      known c h = ⊎-elim (λ (e : c ≡ i). subst (λ (k : ℕ). ChildChain q k) (sym e) here) (λ ne. there c h ne) (equal-or-not c i)
 
 -- the steps that enter a record
 pub enter-steps : (p : Pool) (i b m : ℕ) (s : Slot) → m ≡ nextRecord p → s ≡ slotOf p i b
@@ -278,7 +278,7 @@ module _ (p : Pool) (i b : ℕ) (can : CanEnter p i b) where
       (slot-prev-child p i b K) (slot-next-node p i b K) (slot-of-start p i b) (λ k h e. let o = K .only k h in can .absent k (o .0, o .1, e))
 
 -- ---- a record for each byte
-stops-leaf : (p : Pool) (c : ℕ) (bs : Key) → Children p c → firstChild p c ≡ 0 → Stops p c bs
+stops-leaf : (p : Pool) (c : ℕ) (bs : Key) → ChildChain p c → firstChild p c ≡ 0 → Stops p c bs
 stops-leaf p c [] k z = tt
 stops-leaf p c (b ∷ bs) k z = λ x h. omega (arith, chain-starts (nextSibling p) (firstChild p c) (k .kids) (k .chain) x (k .all x (h .0) (h .1)))
 
@@ -388,7 +388,7 @@ module _ (p : Pool) (t v : ℕ) (s : SoundBut p t) (u : InUse p t) where
             (marked-other p t v c 1 (omega arith) (λ e. absurd (ne (sym e))) ∙ g .0, omega (arith, g .1 ne))) (equal-or-not c t);
       }
 
-  mark-children : (c : ℕ) → Node p c → Children markedPool c
+  mark-children : (c : ℕ) → Node p c → ChildChain markedPool c
   mark-children c h =
       let k = s .children c h in
       record {

@@ -17,7 +17,7 @@ use lib.Dec.{eqb}
 use borrow.Author.Tests.{eq-eqb, ne-eqb, eqb-true, eqb-false}
 use Rattle.keymap.specs.Key.{Key, Bytes}
 use Rattle.records.specs.Words.{Pool, InUse, Node}
-use Rattle.records.specs.Sound.{Children}
+use Rattle.records.specs.Sound.{ChildChain}
 use Rattle.records.specs.Spelling.{Spells, Stops}
 use Rattle.pool.specs.declared.path.Reach.{Reach}
 use Rattle.pool.specs.Siblings.{childAt}
@@ -49,7 +49,7 @@ pub record Split (p : Pool) (i d : ℕ) (bs : Key) (r : Reach) : Type 0 where
   pub spells : Spells p i there (r .at)
   pub stops : Stops p (r .at) rest
 
-module _ (p : Pool) (K : (c : ℕ) → Node p c → Children p c) where
+module _ (p : Pool) (K : (c : ℕ) → Node p c → ChildChain p c) where
   split-from : (bs : Key) (i d : ℕ) → Node p i → Split p i d bs (reachFrom p i d bs)
   unfolding reachFrom
   split-from [] i d n = record { there = []; rest = []; whole = refl; depth = omega arith; spells = refl; stops = tt }

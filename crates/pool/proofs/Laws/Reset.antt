@@ -13,7 +13,7 @@ use lib.ListN.{length, getD}
 use borrow.Author.Tests.{le-ltb, lt-ltb}
 use Rattle.keymap.specs.Refusals.{Refusal, refuses}
 use Rattle.records.specs.Words.{Pool, recordWords, lastRecord, usedCount}
-use Rattle.records.specs.Sound.{Children, Sound}
+use Rattle.records.specs.Sound.{ChildChain, Sound}
 use Rattle.records.proofs.Laws.Words.{word-at, last-entry, count-none, node-within}
 use Rattle.pool.specs.Answers.{accepted}
 use Rattle.pool.specs.Writing.{filled}
@@ -64,7 +64,7 @@ module _ (p : Pool) where
           fits = λ c u. absurd (omega arith);
           children = λ c u.
               let e : c ≡ 0 = omega (arith, node-within zeroed c u) in
-              subst (Children zeroed) (sym e)
+              subst (ChildChain zeroed) (sym e)
               (record { kids = []; chain = filled-child p 0 0 0 0 (omega arith); rising = tt; only = λ x m. absurd m; all = λ x w t. absurd (omega arith) });
         }
 

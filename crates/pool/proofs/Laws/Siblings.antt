@@ -21,7 +21,7 @@ use lib.ListN.{length}
 use lib.Dec.{ltb, eqb}
 use borrow.Author.Tests.{le-ltb, lt-ltb, eq-eqb, ne-eqb, eqb-true}
 use Rattle.records.specs.Words.{Pool, label, firstChild, nextSibling, lastRecord, Node}
-use Rattle.records.specs.Sound.{Among, Chain, LabelsRise, Children}
+use Rattle.records.specs.Sound.{Among, Chain, LabelsRise, ChildChain}
 use Rattle.records.specs.Spelling.{ChildBy}
 use Rattle.records.proofs.Laws.Distinct.{Once, equal-or-not, below-or-not}
 use Rattle.records.proofs.Laws.Sound.{chain-same, rises-same, rises-above, children-most}
@@ -179,7 +179,7 @@ module _ (p : Pool) (i b : ℕ) (s : Slot) (e : s ≡ slotOf p i b) where
   unfolding childAt
   child-none h = rw (← e) (simp (ne-eqb _ _ h))
 
-module _ (p : Pool) (i b : ℕ) (K : Children p i) where
+module _ (p : Pool) (i b : ℕ) (K : ChildChain p i) where
   pub slot-prev-child : (slotOf p i b .prev ≡ 0) ⊎ Among (slotOf p i b .prev) (K .kids)
   unfolding slotOf
   slot-prev-child = slot-from-prev p b (lastRecord p) 0 (firstChild p i) (K .kids) (K .chain)

@@ -40,7 +40,7 @@ use Rattle.keymap.proofs.Laws.Members.{in-map, distinct-same, ordered-weak, ord
 use Rattle.keymap.proofs.Laws.Prefixes.{prefixes-iff, prefixes-distinct, prefixes-insert}
 use Rattle.keymap.proofs.Laws.LevelOrder.{length-prefixes}
 use Rattle.records.specs.Words.{Pool, entry, label, value, recordValue, firstChild, nextSibling, parent, lastRecord, usedCount, InUse, Node, Bounded}
-use Rattle.records.specs.Sound.{Among, Chain, LabelsRise, Children, Sound}
+use Rattle.records.specs.Sound.{Among, Chain, LabelsRise, ChildChain, Sound}
 use Rattle.records.specs.Spelling.{ChildBy, Spells, Stops, recordPath}
 use Rattle.records.specs.Meaning.{siblingsFrom, forestBelow, poolForest, poolMap, Holds}
 use Rattle.records.proofs.Laws.Distinct.{below-or-not}
@@ -103,7 +103,7 @@ module _ (p : Pool) (below : ℕ → Forest) where
       above (z ∷ zs) q = omega (arith, q .0)
 
 -- ---- going down
-module _ (p : Pool) (K : (c : ℕ) → Node p c → Children p c) where
+module _ (p : Pool) (K : (c : ℕ) → Node p c → ChildChain p c) where
   pub below-children : (f i : ℕ) (n : Node p i) → forestBelow (suc f) p i ≡ forestOf p (forestBelow f p) (K i n .kids)
   unfolding forestBelow
   below-children f i n = siblings-chain p (forestBelow f p) (lastRecord p) (firstChild p i) (K i n .kids) (K i n .chain) (children-most p i (K i n))

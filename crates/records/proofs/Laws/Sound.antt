@@ -16,7 +16,7 @@ use mathlib.Core.Logic.{inl, inr}
 use lib.ListN.{length}
 use native.Mathlib.Omega.{arith}
 use Rattle.records.specs.Words.{Pool, label, parent, lastRecord, usedCount, InUse, Node, capacity}
-use Rattle.records.specs.Sound.{Among, Chain, LabelsRise, Children, Sound}
+use Rattle.records.specs.Sound.{Among, Chain, LabelsRise, ChildChain, Sound}
 use Rattle.records.proofs.Laws.Distinct.{Once, once-at-most}
 use Rattle.records.proofs.Laws.Words.{count-last, parent-node}
 
@@ -77,7 +77,7 @@ rises-distinct p l [] r = tt
 rises-distinct p l (x ∷ xs) r =
     ((λ h. let a : label p x + 1 ≤ label p x = rises-above p (label p x + 1) xs (r .1) x h in omega arith), rises-distinct p (label p x + 1) xs (r .1))
 
-pub children-most : (p : Pool) (c : ℕ) (k : Children p c) → length (k .kids) ≤ lastRecord p
+pub children-most : (p : Pool) (c : ℕ) (k : ChildChain p c) → length (k .kids) ≤ lastRecord p
 children-most p c k = once-at-most (lastRecord p) (k .kids) (rises-distinct p 0 (k .kids) (k .rising)) (λ x m. k .only x m .0)
 
 module _ (p : Pool) (s : Sound p) where

@@ -24,7 +24,7 @@ use Rattle.keymap.specs.Label.{mark}
 use Rattle.records.specs.declared.soundness.Rest.{Rest}
 use Rattle.records.specs.declared.soundness.Rest.the-variants.{Left, Broken}
 use Rattle.records.specs.Words.{Pool, recordWords, entry, label, value, firstChild, nextSibling, parent, lastRecord, usedCount, InUse, capacity}
-use Rattle.records.specs.Sound.{Among, Chain, LabelsRise, Children, Sound}
+use Rattle.records.specs.Sound.{Among, Chain, LabelsRise, ChildChain, Sound}
 use Rattle.records.specs.SoundTest.{both, wordsFit, recordFits, isChild, chainRest, recordRest, passRest, noneLeft, rootFits, soundTest}
 use Rattle.records.proofs.Laws.Distinct.{Once, equal-or-not, in-append, in-left, in-right, once-append, once-at-most, cover-at-least, once-covers}
 use Rattle.records.proofs.Laws.Words.{count-last, node-within, within-node}
@@ -300,7 +300,7 @@ module _ (p : Pool) (s : Sound p) where
       ⊎-elim (λ (e : c ≡ 0). subst (λ (k : ℕ). recordFits p n k ≡ true) (sym e) (root-passes p n))
       (λ (ne : c ≡ 0 → ⊥). own-fits p n c (omega (arith, ne)) (own-words c (omega (arith, ne), l))) (equal-or-not c 0)
 
-  abbrev chained : (j : ℕ) → j ≤ n → Children p j
+  abbrev chained : (j : ℕ) → j ≤ n → ChildChain p j
   chained j l = s .children j (within-node p j l)
 
   passes-next : (j : ℕ) → j ≤ n → Passes j → Passes (suc j)

@@ -20,7 +20,7 @@ use lib.ListN.{length}
 use borrow.Author.Tests.{eq-eqb, ne-eqb}
 use Rattle.keymap.specs.Key.{Key}
 use Rattle.records.specs.Words.{Pool, label, parent, lastRecord, InUse, Node}
-use Rattle.records.specs.Sound.{Among, Chain, LabelsRise, Children, Sound}
+use Rattle.records.specs.Sound.{Among, Chain, LabelsRise, ChildChain, Sound}
 use Rattle.records.specs.Spelling.{ChildBy, Spells, pathUp, recordPath, Climbs}
 use Rattle.records.proofs.Laws.Distinct.{equal-or-not, once-at-most}
 use Rattle.records.proofs.Laws.Sound.{chain-distinct, rises-above, parent-in-use}
@@ -144,7 +144,7 @@ label-or-not p b (x ∷ xs) =
     (label-or-not p b xs))
     (equal-or-not (label p x) b)
 
-module _ (p : Pool) (K : (c : ℕ) → Node p c → Children p c) where
+module _ (p : Pool) (K : (c : ℕ) → Node p c → ChildChain p c) where
   pub child-one : (i b x y : ℕ) → Node p i → ChildBy p i b x → ChildBy p i b y → x ≡ y
   child-one i b x y n c d =
       let k = K i n in label-one p 0 (k .kids) (k .rising) x y (k .all x (c .0) (c .1)) (k .all y (d .0) (d .1)) (c .2 ∙ sym (d .2))

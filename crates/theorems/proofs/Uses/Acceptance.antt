@@ -41,8 +41,8 @@ list-map = (ofA .list-map .0 (tests-list .0), ofA .list-map .1 (tests-map .0))
 pub accepts : (acceptSays imageA ≡ 0 ∷ []) × (acceptSays damaged ≡ 0 ∷ [] → ⊥)
 accepts = (ofA .accepts .1 (tests-map .0), λ s. tests-map .1 (ofDamaged .accepts .0 s))
 
-pub refuses : (acceptSays damaged ≡ 6 ∷ []) × (acceptSays imageA ≡ 6 ∷ [] → ⊥)
-refuses = (ofDamaged .refuses .1 (tests-map .1), λ s. ofA .refuses .0 s (tests-map .0))
+pub refusal : (acceptSays damaged ≡ 6 ∷ []) × (acceptSays imageA ≡ 6 ∷ [] → ⊥)
+refusal = (ofDamaged .refusal .1 (tests-map .1), λ s. ofA .refusal .0 s (tests-map .0))
 
 -- the map that the searches speak of is A's
 pub only : imageMap imageA ≡ mapA

@@ -57,12 +57,12 @@ unfolding tabLine decimal decimalFrom holds
 reads-empty = every-line (9 ∷ 51 ∷ []) .reads ([], 3) .1 (record { no-tab = refl; no-lf = refl; value = omega arith }, refl)
 
 -- a leading zero: refused 9, and so it is the line of no entry; A's line is one, and so it is not refused
-pub refuses : ((e : Entry) → Plain e → leading ≡ tabLine e → ⊥) × (tabLineSays line ≡ 9 ∷ [] → ⊥)
+pub refusal : ((e : Entry) → Plain e → leading ≡ tabLine e → ⊥) × (tabLineSays line ≡ 9 ∷ [] → ⊥)
 unfolding tabLineSays tabEntry keyPart numberPart holds stretch numberIn isDecimal leadingZero areDigits valueAfter tabLine decimal decimalFrom
-refuses = (every-line leading .refuses .0 refl, λ s. every-line line .refuses .0 s (ab, 7) plain refl)
+refusal = (every-line leading .refusal .0 refl, λ s. every-line line .refusal .0 s (ab, 7) plain refl)
 
 pub refused : (l : List ℕ) → ((e : Entry) → Plain e → l ≡ tabLine e → ⊥) → tabLineSays l ≡ 9 ∷ []
-refused l n = every-line l .refuses .1 n
+refused l n = every-line l .refusal .1 n
 
 -- five bytes are written to a longer buffer and to one of five, and none to one of four
 pub writes : (writeLineSays (ab, 7) (9 ∷ 9 ∷ 9 ∷ 9 ∷ 9 ∷ 9 ∷ []) ≡ 0 ∷ 5 ∷ []) × (writeLineOut (ab, 7) (9 ∷ 9 ∷ 9 ∷ 9 ∷ 9 ∷ 9 ∷ []) ≡ 97 ∷ 98 ∷ 9 ∷ 55 ∷ 10 ∷ 9 ∷ [])
@@ -75,7 +75,7 @@ writes-all = every-write (ab, 7) (9 ∷ four) .writes (omega arith)
 
 pub no-room : (writeLineSays (ab, 7) four ≡ 8 ∷ []) × ((out : List ℕ) → writeLineSays (ab, 7) out ≡ 8 ∷ [] → length out < 5)
 unfolding tabText tabLine decimal decimalFrom
-no-room = (every-write (ab, 7) four .refuses .1 (omega arith), λ out s. every-write (ab, 7) out .refuses .0 s)
+no-room = (every-write (ab, 7) four .refusal .1 (omega arith), λ out s. every-write (ab, 7) out .refusal .0 s)
 
 -- "ab", LF, "b": the first line is "ab", ends at 2, and the next begins at 3; that one is "b" and ends at 4, where the text does; no line begins there or behind it
 abbrev text : List ℕ

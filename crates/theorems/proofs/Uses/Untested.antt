@@ -29,12 +29,12 @@ use Rattle.theorems.proofs.Uses.Values.{a, ab, b, imageA, lentA}
 abbrev short : Image
 short = record { labels = 97 ∷ 354 ∷ 354 ∷ []; values = 0 ∷ 3 ∷ []; words = 45 ∷ [] }
 
-pub refuses : (untestedSays short ab ≡ 6 ∷ []) × (untestedSays short [] ≡ 6 ∷ []) × (untestedSays imageA ab ≡ 6 ∷ [] → ⊥) × (untestedSays imageA [] ≡ 6 ∷ [] → ⊥)
-refuses = (
-  untested .refuses short ab .1 (λ f. omega (arith, f .1)),
-  untested .refuses short [] .1 (λ f. omega (arith, f .1)),
-  λ s. untested .refuses imageA ab .0 s (omega arith, refl, refl),
-  λ s. untested .refuses imageA [] .0 s (omega arith, refl, refl),
+pub refusal : (untestedSays short ab ≡ 6 ∷ []) × (untestedSays short [] ≡ 6 ∷ []) × (untestedSays imageA ab ≡ 6 ∷ [] → ⊥) × (untestedSays imageA [] ≡ 6 ∷ [] → ⊥)
+refusal = (
+  untested .refusal short ab .1 (λ f. omega (arith, f .1)),
+  untested .refusal short [] .1 (λ f. omega (arith, f .1)),
+  λ s. untested .refusal imageA ab .0 s (omega arith, refl, refl),
+  λ s. untested .refusal imageA [] .0 s (omega arith, refl, refl),
 )
 
 -- so many entries and values, and any words
@@ -45,8 +45,8 @@ pub refuses-many : (untestedSays (many 4096) ab ≡ 6 ∷ [] → ⊥) × (untest
 refuses-many =
     let labels : (n : ℕ) → length (many n .labels) ≡ n = λ n. length-replicate {A = ℕ} n 353 in
     let values : length (many 4096 .values) ≡ 4096 = length-replicate {A = ℕ} 4096 1 in (
-      λ s. untested .refuses (many 4096) ab .0 s (omega (arith, labels 4096), values ∙ sym (labels 4096), length-replicate {A = ℕ} 129 0 ∙ ap (λ (n : ℕ). wordsFor (bitsFor n)) (sym (labels 4096))),
-      untested .refuses (many 4097) ab .1 (λ f. omega (arith, f .0, labels 4097)),
+      λ s. untested .refusal (many 4096) ab .0 s (omega (arith, labels 4096), values ∙ sym (labels 4096), length-replicate {A = ℕ} 129 0 ∙ ap (λ (n : ℕ). wordsFor (bitsFor n)) (sym (labels 4096))),
+      untested .refusal (many 4097) ab .1 (λ f. omega (arith, f .0, labels 4097)),
     )
 
 pub accepted : (untestedSays imageA ab ≡ exactSays imageA ab) × (untestedSays imageA [] ≡ exactSays imageA [])

@@ -20,7 +20,7 @@ use Rattle.image.specs.declared.answers.Built.{Built}
 use Rattle.image.proofs.answers.Built as of-built
 use Rattle.image.specs.Build.{saidBuilt}
 use Rattle.lines.specs.Writing.{mapText}
-use Rattle.catalogue.proofs.Laws.Building.{LentImage, word-bounded, lent-image}
+use Rattle.catalogue.proofs.Laws.Building.{LentParts, word-bounded, lent-parts}
 use Rattle.catalogue.proofs.listing.list_pool.Statement.{statement}
 use Rattle.catalogue.proofs.listing.list_pool.Tie as tie
 
@@ -76,20 +76,20 @@ cast-nodes c = search needs
 -- what the build left where its answer is n, if so many words are lent
 built : (c : tie.After-known-told) (w : ℕ) → w ≡ wordsFor (bitsFor (c .before .n .given .0 .0))
     → let b = building (chosen c) in
-    LentImage (start (lending b) .args .pool .now) (b .build .last .1 .0) (b .build .last .1 .1 .0) (b .build .last .1 .1 .1 .0) (c .before .n .given .0 .0) w
+    LentParts (start (lending b) .args .pool .now) (b .build .last .1 .0) (b .build .last .1 .1 .0) (b .build .last .1 .1 .1 .0) (c .before .n .given .0 .0) w
 built c w sized =
     let b = building (chosen c) in
     let s = lending b in
     let a = start s .args in
     let left = b .build .ensures in
-    lent-image (a .pool .now) (a .labels .now) (a .values .now) (a .words .now) (a .scratch .now) _ w _ _ _ sized (λ s₁. map-catalogue _ s₁ (word-bounded _ (λ j. s .before .before .before .before .before .shared-slice-known .given j .fits)))
+    lent-parts (a .pool .now) (a .labels .now) (a .values .now) (a .words .now) (a .scratch .now) _ w _ _ _ sized (λ s₁. map-catalogue _ s₁ (word-bounded _ (λ j. s .before .before .before .before .before .shared-slice-known .given j .fits)))
     (ap saidBuilt (sym (c .before .n .given .1)) ∙ left .0) (left .1 .0) (left .1 .1 .0) (left .1 .1 .1 .0)
 
 -- as many as are lent
 shown : (c : tie.After-words-for)
     → let k = c .before .before .before in
     let b = building (chosen k) in
-    LentImage (start (lending b) .args .pool .now) (b .build .last .1 .0) (b .build .last .1 .1 .0) (b .build .last .1 .1 .1 .0) (k .before .n .given .0 .0) (c .words-for .result)
+    LentParts (start (lending b) .args .pool .now) (b .build .last .1 .0) (b .build .last .1 .1 .0) (b .build .last .1 .1 .1 .0) (k .before .n .given .0 .0) (c .words-for .result)
 shown c = built (c .before .before .before) (c .words-for .result) (c .words-for .ensures)
 
 slice-reshare-prefix-list-image : tie.Need-slice-reshare-prefix-list-image

@@ -2,7 +2,7 @@
 use mathlib.Core.Path.{sym, _∙_}
 use borrow.Author.Needs.{needs}
 use borrow.Author.Tests.{not-true, not-false}
-use Rattle.image.specs.WordTest.{Counted}
+use Rattle.image.specs.WordTest.{CountedWords}
 use Rattle.image.proofs.Laws.WordTest.{count-stop, entries-stop, words-pass}
 use Rattle.image.proofs.acceptance.passes.Statement.{statement}
 use Rattle.image.proofs.acceptance.passes.Tie as tie
@@ -39,7 +39,7 @@ returns-2 c =
     sym (entries-stop (a .labels .now) (a .values .now) (a .words .now) (s .pre .1) (sym (c .before .entries-fit .ensures) ∙ not-true _ (c .if2 .taken)))
 
 -- what is known of the words then
-counted : (c : tie.Else1) → Counted (to-start (c .before) .args .labels .now) (to-start (c .before) .args .words .now)
+counted : (c : tie.Else1) → CountedWords (to-start (c .before) .args .labels .now) (to-start (c .before) .args .words .now)
 counted c =
     let start = to-start (c .before) in
     record { framed = start .pre .1; ones = sym (c .before .ones-before .ensures) ∙ c .if1 .left }

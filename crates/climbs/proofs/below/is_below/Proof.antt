@@ -20,6 +20,13 @@ Inv-loop words len top node at₀ at =
 abbrev μ-loop : tie.MeasureT-loop
 μ-loop words len top node at₀ at = at .node
 
+-- ---- the states that the needs look back to: a wrong count of steps is refused here, by its type
+abbrev start : tie.At-loop Inv-loop μ-loop → tie.Start Inv-loop μ-loop
+start c = c .before .before .before
+
+abbrev turn : tie.After-parent-of Inv-loop μ-loop → tie.At-loop Inv-loop μ-loop
+turn c = c .before .before .before
+
 perch-at-requires : tie.Need-perch-at-requires Inv-loop μ-loop
 perch-at-requires c κs = search needs
 
@@ -42,20 +49,22 @@ enum-told c = c .match .keys2
 
 returns : tie.Need-returns Inv-loop μ-loop
 returns c =
-    let a = c .before .before .before .before .before .before .before .before .args in
-    let l = c .before .before .before .before .before .loop in
+    let here = turn (c .before .before) in
+    let a = start here .args in
+    let l = here .loop in
     let b = bit (a .words .now) in
     let top = rise-lost b (bit-small (a .words .now)) (a .len) (l .at) (l .inv .0) _ (c .before .before .parent-of .ensures) (c .enum-told .given .1) in
     sym (l .inv .1 ∙ belowBy-lost b (a .len) (a .top) (l .at .node) (omega arith) top)
 
 -- where the step led
 there : (c : tie.After-known-told Inv-loop μ-loop)
-    → RiseTold (bit (c .before .before .before .before .before .before .before .before .before .args .words .now)) (c .before .before .before .before .before .before .before .before .before .args .len)
-    (c .before .before .before .before .before .before .loop .at .node)
-    (c .before .up .given .0 .0)
+    → let here = turn (c .before .before .before) in
+    let a = start here .args in
+    RiseTold (bit (a .words .now)) (a .len) (here .loop .at .node) (c .before .up .given .0 .0)
 there c =
-    let a = c .before .before .before .before .before .before .before .before .before .args in
-    let l = c .before .before .before .before .before .before .loop in
+    let here = turn (c .before .before .before) in
+    let a = start here .args in
+    let l = here .loop in
     rise-to (bit (a .words .now)) (bit-small (a .words .now)) (a .len) (l .at) (l .inv .0) _ (c .before .before .before .parent-of .ensures) _ (c .before .up .given .1)
 
 loop-less : tie.Need-loop-less Inv-loop μ-loop
@@ -63,14 +72,16 @@ loop-less c = there c .lower
 
 loop-again : tie.Need-loop-again Inv-loop μ-loop
 loop-again c =
-    let a = c .before .before .before .before .before .before .before .before .before .args in
-    let l = c .before .before .before .before .before .before .loop in
+    let here = turn (c .before .before .before) in
+    let a = start here .args in
+    let l = here .loop in
     (there c .knows, l .inv .1 ∙ belowBy-up (bit (a .words .now)) (a .len) (a .top) (l .at .node) _ (omega arith) (there c .node))
 
 returns-2 : tie.Need-returns-2 Inv-loop μ-loop
 returns-2 c =
-    let a = c .before .before .before .before .before .before .args in
-    let l = c .before .before .before .loop in
+    let here = c .before .before .before in
+    let a = start here .args in
+    let l = here .loop in
     sym (l .inv .1 ∙ belowBy-here (bit (a .words .now)) (a .len) (a .top) (l .at .node) (omega arith))
 
 pub is-below-spec : {M : Type 1} → statement M

@@ -15,6 +15,13 @@ Inv-loop words len last top at₀ at = climbFrom (bit words) len last top at₀ 
 abbrev μ-loop : tie.MeasureT-loop
 μ-loop words len last top at₀ at = at .node
 
+-- ---- the states that the needs look back to: a wrong count of steps is refused here, by its type
+abbrev turn : tie.After-beside Inv-loop μ-loop → tie.At-loop Inv-loop μ-loop
+turn c = c .before .before .before
+
+abbrev alone : tie.After-parent-of Inv-loop μ-loop → tie.After-beside Inv-loop μ-loop
+alone c = c .before .before .before
+
 loop-holds : tie.Need-loop-holds Inv-loop μ-loop
 loop-holds c = refl
 
@@ -26,9 +33,10 @@ enum-known-next c = c .match .keys1
 
 returns : tie.Need-returns Inv-loop μ-loop
 returns c =
-    let a = c .before .before .before .before .before .before .before .before .args in
-    let l = c .before .before .before .before .before .before .loop in
-    sym (l .inv ∙ climbFrom-beside (bit (a .words .now)) (a .len) (a .last) (a .top) (l .at) (omega arith) _ (sym (c .before .before .before .beside .ensures) ∙ c .before .next .given .1))
+    let b = c .before .before .before in
+    let a = turn b .before .before .args in
+    let l = turn b .loop in
+    sym (l .inv ∙ climbFrom-beside (bit (a .words .now)) (a .len) (a .last) (a .top) (l .at) (omega arith) _ (sym (b .beside .ensures) ∙ c .before .next .given .1))
 
 enum-told : tie.Need-enum-told Inv-loop μ-loop
 enum-told c = c .match .keys2
@@ -44,25 +52,28 @@ enum-told-2 c = c .match2 .keys2
 
 returns-2 : tie.Need-returns-2 Inv-loop μ-loop
 returns-2 c =
-    let a = c .before .before .before .before .before .before .before .before .before .before .args in
-    let l = c .before .before .before .before .before .before .before .before .loop in
+    let b = alone (c .before .before) in
+    let a = turn b .before .before .args in
+    let l = turn b .loop in
     sym
     (l .inv
-    ∙ climbFrom-lost (bit (a .words .now)) (a .len) (a .last) (a .top) (l .at) (omega arith) (sym (c .before .before .before .before .before .beside .ensures) ∙ c .before .before .before .enum-told .given .1)
+    ∙ climbFrom-lost (bit (a .words .now)) (a .len) (a .last) (a .top) (l .at) (omega arith) (sym (b .beside .ensures) ∙ c .before .before .before .enum-told .given .1)
     (sym (c .before .before .parent-of .ensures) ∙ c .enum-told2 .given .1))
 
 loop-less : tie.Need-loop-less Inv-loop μ-loop
 loop-less c =
-    let a = c .before .before .before .before .before .before .before .before .before .before .before .args in
-    let l = c .before .before .before .before .before .before .before .before .before .loop in
+    let b = alone (c .before .before .before) in
+    let a = turn b .before .before .args in
+    let l = turn b .loop in
     rise-lower (bit (a .words .now)) (a .len) (l .at) _ (sym (c .before .before .before .parent-of .ensures) ∙ c .before .up .given .1)
 
 loop-again : tie.Need-loop-again Inv-loop μ-loop
 loop-again c =
-    let a = c .before .before .before .before .before .before .before .before .before .before .before .args in
-    let l = c .before .before .before .before .before .before .before .before .before .loop in
+    let b = alone (c .before .before .before) in
+    let a = turn b .before .before .args in
+    let l = turn b .loop in
     l .inv
-    ∙ climbFrom-up (bit (a .words .now)) (a .len) (a .last) (a .top) (l .at) (omega arith) (sym (c .before .before .before .before .before .before .beside .ensures) ∙ c .before .before .before .before .enum-told .given .1) _
+    ∙ climbFrom-up (bit (a .words .now)) (a .len) (a .last) (a .top) (l .at) (omega arith) (sym (b .beside .ensures) ∙ c .before .before .before .before .enum-told .given .1) _
     (sym (c .before .before .before .parent-of .ensures) ∙ c .before .up .given .1)
 
 returns-3 : tie.Need-returns-3 Inv-loop μ-loop

@@ -15,6 +15,16 @@ use Rattle.climbs.proofs.Laws.Moves.{leads-told, zero-ahead, firstFrom-
 use Rattle.climbs.proofs.order.first_child.Statement.{statement}
 use Rattle.climbs.proofs.order.first_child.Tie as tie
 
+-- ---- the states that the needs look back to: a wrong count of steps is refused here, by its type
+abbrev start : tie.Else1 → tie.Start
+start c = c .before .before .before
+
+abbrev leading : tie.After-zero-from → tie.Else1
+leading c = c .before .before .before .before
+
+abbrev passed : tie.After-one-behind → tie.Else1
+passed c = leading (c .before .before .before .before)
+
 leads-down-requires : tie.Need-leads-down-requires
 leads-down-requires c κs = search needs
 
@@ -24,7 +34,9 @@ returns c =
     sym (firstFrom-far (bit (a .words .now)) (a .len) (a .last) (a .at) (sym (c .before .leads-down .ensures) ∙ not-true _ (c .if1 .taken)))
 
 -- past the first test
-may : (c : tie.Else1) → leads (c .before .before .before .args .len) (c .before .before .before .args .at .node) (c .before .before .before .args .at .one) ≡ true
+may : (c : tie.Else1)
+    → let a = start c .args in
+    leads (a .len) (a .at .node) (a .at .one) ≡ true
 may c = sym (c .before .leads-down .ensures) ∙ not-false _ (c .if1 .left)
 
 add-before : tie.Need-add-before
@@ -47,9 +59,10 @@ enum-told c = c .match .keys2
 
 returns-2 : tie.Need-returns-2
 returns-2 c =
-    let a = c .before .before .before .before .before .before .before .before .before .args in
+    let p = leading (c .before .before) in
+    let a = start p .args in
     sym
-    (firstFrom-missing (bit (a .words .now)) (a .len) (a .last) (a .at) (may (c .before .before .before .before .before .before))
+    (firstFrom-missing (bit (a .words .now)) (a .len) (a .last) (a .at) (may p)
     (sym (c .before .before .zero-from .ensures) ∙ c .enum-told .given .1))
 
 one-behind-requires : tie.Need-one-behind-requires
@@ -57,22 +70,22 @@ one-behind-requires c κs = search needs
 
 -- the node's zero
 zero-is : (c : tie.After-one-behind)
-    → zeroFrom (bit (c .before .before .before .before .before .before .before .before .before .before .before .args .words .now)) (c .before .before .before .before .before .before .before .before .before .before .before .args .len)
-    (c .before .before .before .before .before .before .before .before .before .before .before .args .at .one)
-    (c .before .before .before .before .before .before .before .before .before .before .before .args .at .node - (c .before .before .before .before .before .before .before .before .before .before .before .args .at .one + 1 - c .before .before .before .before .before .before .before .before .before .before .before .args .at .node))
-    ≡ At (c .before .before .zero .given .0 .0)
+    → let a = start (passed c) .args in
+    zeroFrom (bit (a .words .now)) (a .len) (a .at .one) (a .at .node - (a .at .one + 1 - a .at .node)) ≡ At (c .before .before .zero .given .0 .0)
 zero-is c = sym (c .before .before .before .before .zero-from .ensures) ∙ c .before .before .zero .given .1
 
 returns-3 : tie.Need-returns-3
 returns-3 c =
-    let a = c .before .before .before .before .before .before .before .before .before .before .before .before .args in
+    let p = passed (c .before) in
+    let a = start p .args in
     sym
-    (firstFrom-bare (bit (a .words .now)) (a .len) (a .last) (a .at) (may (c .before .before .before .before .before .before .before .before .before)) _ (zero-is (c .before))
+    (firstFrom-bare (bit (a .words .now)) (a .len) (a .last) (a .at) (may p) _ (zero-is (c .before))
     (sym (c .before .one-behind .ensures) ∙ not-true _ (c .if2 .taken)))
 
 -- past the second
 behind : (c : tie.Else2)
-    → oneBehind (bit (c .before .before .before .before .before .before .before .before .before .before .before .before .args .words .now)) (c .before .before .before .before .before .before .before .before .before .before .before .before .args .len) (c .before .before .before .zero .given .0 .0) ≡ true
+    → let a = start (passed (c .before)) .args in
+    oneBehind (bit (a .words .now)) (a .len) (c .before .before .before .zero .given .0 .0) ≡ true
 behind c = sym (c .before .one-behind .ensures) ∙ not-false _ (c .if2 .left)
 
 add-child : tie.Need-add-child
@@ -80,8 +93,9 @@ add-child c = omega (arith, oneBehind-told _ _ _ (behind c) .0)
 
 sub-child : tie.Need-sub-child
 sub-child c =
-    let a = c .before .before .before .before .before .before .before .before .before .before .before .before .before .args in
-    let m = may (c .before .before .before .before .before .before .before .before .before .before) in
+    let p = passed (c .before .before) in
+    let a = start p .args in
+    let m = may p in
     omega (arith, leads-told _ _ _ m .upto, zero-ahead (bit (a .words .now)) (a .len) (a .last) (a .at) m _ (zero-is (c .before .before)))
 
 counts-to-requires : tie.Need-counts-to-requires
@@ -89,9 +103,11 @@ counts-to-requires c κs = search needs
 
 returns-4 : tie.Need-returns-4
 returns-4 c =
-    let a = c .before .before .before .before .before .before .before .before .before .before .before .before .before .before .before .args in
+    let z = c .before .before .before .before in
+    let p = passed z in
+    let a = start p .args in
     sym
-    (firstFrom-out (bit (a .words .now)) (a .len) (a .last) (a .at) (may (c .before .before .before .before .before .before .before .before .before .before .before .before)) _ (zero-is (c .before .before .before .before)) (behind (c .before .before .before))
+    (firstFrom-out (bit (a .words .now)) (a .len) (a .last) (a .at) (may p) _ (zero-is z) (behind (c .before .before .before))
     (sym (c .before .counts-to .ensures) ∙ not-true _ (c .if3 .taken)))
 
 add-t10 : tie.Need-add-t10
@@ -99,9 +115,11 @@ add-t10 c = omega (arith, oneBehind-told _ _ _ (behind (c .before .before .befor
 
 returns-5 : tie.Need-returns-5
 returns-5 c =
-    let a = c .before .before .before .before .before .before .before .before .before .before .before .before .before .before .before .args in
+    let z = c .before .before .before .before in
+    let p = passed z in
+    let a = start p .args in
     sym
-    (firstFrom-child (bit (a .words .now)) (a .len) (a .last) (a .at) (may (c .before .before .before .before .before .before .before .before .before .before .before .before)) _ (zero-is (c .before .before .before .before)) (behind (c .before .before .before))
+    (firstFrom-child (bit (a .words .now)) (a .len) (a .last) (a .at) (may p) _ (zero-is z) (behind (c .before .before .before))
     (sym (c .before .counts-to .ensures) ∙ not-false _ (c .if3 .left)))
 
 pub first-child-spec : {M : Type 1} → statement M

@@ -24,6 +24,16 @@ Inv-loop labels values words len top node last at₀ left₀ at left =
 abbrev μ-loop : tie.MeasureT-loop
 μ-loop labels values words len top node last at₀ left₀ at left = left
 
+-- ---- the states that the needs look back to: a wrong count of steps is refused here, by its type
+abbrev start : tie.After-perch-at Inv-loop μ-loop → tie.Start Inv-loop μ-loop
+start c = c .before .before .before .before
+
+abbrev turn : tie.After-advance Inv-loop μ-loop → tie.At-loop Inv-loop μ-loop
+turn c = c .before .before
+
+abbrev went : tie.After-known-told Inv-loop μ-loop → tie.At-loop Inv-loop μ-loop
+went c = turn (c .before .before .before)
+
 add-last : tie.Need-add-last Inv-loop μ-loop
 add-last c = search needs
 
@@ -32,7 +42,7 @@ perch-at-requires c κs = search needs
 
 loop-holds : tie.Need-loop-holds Inv-loop μ-loop
 loop-holds c =
-    let a = c .before .before .before .before .args in
+    let a = start c .args in
     let b = bit (a .words .now) in
     let told = c .perch-at .ensures in
     let own = ap (λ (p : Perch). p .node) told in (
@@ -52,8 +62,9 @@ enum-told c = c .match .keys2
 
 returns : tie.Need-returns Inv-loop μ-loop
 returns c =
-    let a = c .before .before .before .before .before .before .before .before .before .args in
-    let l = c .before .before .before .before .loop in
+    let here = turn (c .before .before) in
+    let a = start (here .before) .args in
+    let l = here .loop in
     let b = bit (a .words .now) in
     let lost = moved-lost b (bit-small (a .words .now)) (a .len) (length (a .labels .now) + 1) (a .top) (l .at) (l .inv .0) _ (c .before .before .advance .ensures) (c .enum-told .given .1) in
     sym
@@ -70,21 +81,20 @@ enum-known-value c = c .match2 .keys1
 
 -- where the step led
 there : (c : tie.After-known-told Inv-loop μ-loop)
-    → MovedTold (bit (c .before .before .before .before .before .before .before .before .before .before .args .words .now)) (c .before .before .before .before .before .before .before .before .before .before .args .len)
-    (advanceBy (bit (c .before .before .before .before .before .before .before .before .before .before .args .words .now)) (c .before .before .before .before .before .before .before .before .before .before .args .len)
-    (length (c .before .before .before .before .before .before .before .before .before .before .args .labels .now) + 1)
-    (c .before .before .before .before .before .before .before .before .before .before .args .top)
-    (c .before .before .before .before .before .loop .at .node))
-    (c .before .next .given .0 .0)
+    → let here = went c in
+    let a = start (here .before) .args in
+    MovedTold (bit (a .words .now)) (a .len) (advanceBy (bit (a .words .now)) (a .len) (length (a .labels .now) + 1) (a .top) (here .loop .at .node)) (c .before .next .given .0 .0)
 there c =
-    let a = c .before .before .before .before .before .before .before .before .before .before .args in
-    let l = c .before .before .before .before .before .loop in
+    let here = went c in
+    let a = start (here .before) .args in
+    let l = here .loop in
     moved-to (bit (a .words .now)) (bit-small (a .words .now)) (a .len) (length (a .labels .now) + 1) (a .top) (l .at) (l .inv .0) _ (c .before .before .before .advance .ensures) _ (c .before .next .given .1)
 
 returns-2 : tie.Need-returns-2 Inv-loop μ-loop
 returns-2 c =
-    let a = c .before .before .before .before .before .before .before .before .before .before .before .before .before .before .args in
-    let l = c .before .before .before .before .before .before .before .before .before .loop in
+    let here = went (c .before .before .before .before) in
+    let a = start (here .before) .args in
+    let l = here .loop in
     let b = bit (a .words .now) in
     let value = heldOf-value _ _ (sym (c .before .before .before .value-at .ensures) ∙ c .before .value .given .1) in
     sym
@@ -104,8 +114,9 @@ loop-less c = omega arith
 
 loop-again : tie.Need-loop-again Inv-loop μ-loop
 loop-again c =
-    let a = c .before .before .before .before .before .before .before .before .before .before .before .before .before .args in
-    let l = c .before .before .before .before .before .before .before .before .loop in
+    let here = went (c .before .before .before) in
+    let a = start (here .before) .args in
+    let l = here .loop in
     let b = bit (a .words .now) in
     let valueless = heldOf-none _ (sym (c .before .before .value-at .ensures) ∙ c .enum-told2 .given .1) in (
       there (c .before .before .before) .knows,
@@ -116,7 +127,7 @@ loop-again c =
 
 returns-3 : tie.Need-returns-3 Inv-loop μ-loop
 returns-3 c =
-    let a = c .before .before .before .before .before .before .args in
+    let a = start (c .before .before) .args in
     let l = c .before .loop in
     let b = bit (a .words .now) in
     let o = advanceBy b (a .len) (length (a .labels .now) + 1) (a .top) (l .at .node) in

@@ -28,6 +28,16 @@ Inv-loop labels words len node count out₀ at₀ left₀ out at left =
 abbrev μ-loop : tie.MeasureT-loop
 μ-loop labels words len node count out₀ at₀ left₀ out at left = left
 
+-- ---- the states that the needs look back to: a wrong count of steps is refused here, by its type
+abbrev start : tie.After-perch-at Inv-loop μ-loop → tie.Start Inv-loop μ-loop
+start c = c .before .before .before .before .before
+
+abbrev turn : tie.Else2 Inv-loop μ-loop → tie.At-loop Inv-loop μ-loop
+turn c = c .before .before .before
+
+abbrev labelled : tie.After-parent-of Inv-loop μ-loop → tie.Else2 Inv-loop μ-loop
+labelled c = c .before .before .before .before
+
 returns : tie.Need-returns Inv-loop μ-loop
 returns c =
     let a = c .before .before .before .before .args in
@@ -38,7 +48,7 @@ perch-at-requires c κs = search needs
 
 loop-holds : tie.Need-loop-holds Inv-loop μ-loop
 loop-holds c =
-    let a = c .before .before .before .before .before .args in
+    let a = start c .args in
     let b = bit (a .words .now) in
     let told = c .perch-at .ensures in
     let own = ap (λ (p : Perch). p .node) told in (
@@ -57,15 +67,16 @@ same-length c = c .before .before .before .loop .inv .1
 
 returns-2 : tie.Need-returns-2 Inv-loop μ-loop
 returns-2 c =
-    let a = c .before .before .before .before .before .before .before .before .before .args in
-    let l = c .before .before .before .loop in
+    let here = c .before .before .before in
+    let a = start (here .before) .args in
+    let l = here .loop in
     sym (l .inv .3 ∙ spelledFrom-bare (a .labels .now) (bit (a .words .now)) (a .len) (l .left) (l .at .node) (l .out) (sym (c .before .has-entry .ensures) ∙ not-true _ (c .if2 .taken)))
 
 sub-left : tie.Need-sub-left Inv-loop μ-loop
 sub-left c = omega arith
 
 -- past the test
-has : (c : tie.Else2 Inv-loop μ-loop) → hasEntry (length (c .before .before .before .before .before .before .before .before .before .args .labels .now)) (c .before .before .before .loop .at .node) ≡ true
+has : (c : tie.Else2 Inv-loop μ-loop) → hasEntry (length (start (turn c .before) .args .labels .now)) (turn c .loop .at .node) ≡ true
 has c = sym (c .before .has-entry .ensures) ∙ not-false _ (c .if2 .left)
 
 sub-label-in : tie.Need-sub-label-in Inv-loop μ-loop
@@ -81,7 +92,7 @@ label-in-requires : tie.Need-label-in-requires Inv-loop μ-loop
 label-in-requires c κs = search needs
 
 slice-write-out : tie.Need-slice-write-out Inv-loop μ-loop
-slice-write-out c = let l = c .before .before .before .before .before .before .loop in omega (arith, l .inv .1, l .inv .2)
+slice-write-out c = let l = turn (c .before .before .before) .loop in omega (arith, l .inv .1, l .inv .2)
 
 parent-of-requires : tie.Need-parent-of-requires Inv-loop μ-loop
 parent-of-requires c κs = search needs
@@ -94,28 +105,22 @@ enum-told c = c .match .keys2
 
 -- the buffer with one label more
 one-more : (c : tie.After-parent-of Inv-loop μ-loop)
-    → (length (set (c .before .before .before .before .before .before .before .loop .out) (c .before .before .before .before .before .before .before .loop .left - 1) (c .before .label-in .result)) ≡ length (c .before .before .before .before .before .before .before .before .before .before .before .before .before .args .out .now))
-    × (spelledBy (c .before .before .before .before .before .before .before .before .before .before .before .before .before .args .labels .now)
-    (bit (c .before .before .before .before .before .before .before .before .before .before .before .before .before .args .words .now))
-    (c .before .before .before .before .before .before .before .before .before .before .before .before .before .args .len)
-    (c .before .before .before .before .before .before .before .before .before .before .before .before .before .args .node)
-    (c .before .before .before .before .before .before .before .before .before .before .before .before .before .args .count)
-    (c .before .before .before .before .before .before .before .before .before .before .before .before .before .args .out .now)
-    ≡ spelledFrom (c .before .before .before .before .before .before .before .before .before .before .before .before .before .args .labels .now)
-    (bit (c .before .before .before .before .before .before .before .before .before .before .before .before .before .args .words .now))
-    (c .before .before .before .before .before .before .before .before .before .before .before .before .before .args .len)
-    (c .before .before .before .before .before .before .before .loop .left - 1)
-    (parentBy (bit (c .before .before .before .before .before .before .before .before .before .before .before .before .before .args .words .now))
-    (c .before .before .before .before .before .before .before .before .before .before .before .before .before .args .len)
-    (c .before .before .before .before .before .before .before .loop .at .node))
-    (set (c .before .before .before .before .before .before .before .loop .out) (c .before .before .before .before .before .before .before .loop .left - 1) (c .before .label-in .result)))
+    → let here = turn (labelled c) in
+    let a = start (here .before) .args in
+    let l = here .loop in
+    let b = bit (a .words .now) in
+    let out = set (l .out) (l .left - 1) (c .before .label-in .result) in
+    (length out ≡ length (a .out .now))
+    × (spelledBy (a .labels .now) b (a .len) (a .node) (a .count) (a .out .now)
+    ≡ spelledFrom (a .labels .now) b (a .len) (l .left - 1) (parentBy b (a .len) (l .at .node)) out)
 one-more c =
-    let a = c .before .before .before .before .before .before .before .before .before .before .before .before .before .args in
-    let l = c .before .before .before .before .before .before .before .loop in
+    let here = turn (labelled c) in
+    let a = start (here .before) .args in
+    let l = here .loop in
     let b = bit (a .words .now) in (
       length-set (l .out) (l .left - 1) (c .before .label-in .result) ∙ l .inv .1,
       l .inv .3
-          ∙ spelledFrom-next (a .labels .now) b (a .len) (l .left) (l .at .node) (l .out) (omega arith) (has (c .before .before .before .before))
+          ∙ spelledFrom-next (a .labels .now) b (a .len) (l .left) (l .at .node) (l .out) (omega arith) (has (labelled c))
           ∙ ap (λ x. spelledFrom (a .labels .now) b (a .len) (l .left - 1) (parentBy b (a .len) (l .at .node)) (set (l .out) (l .left - 1) x)) (sym (c .before .label-in .ensures)),
     )
 
@@ -124,8 +129,9 @@ same-length-2 c = one-more (c .before .before) .0
 
 returns-3 : tie.Need-returns-3 Inv-loop μ-loop
 returns-3 c =
-    let a = c .before .before .before .before .before .before .before .before .before .before .before .before .before .before .before .args in
-    let l = c .before .before .before .before .before .before .before .before .before .loop in
+    let here = turn (labelled (c .before .before)) in
+    let a = start (here .before) .args in
+    let l = here .loop in
     let b = bit (a .words .now) in
     let top = rise-lost b (bit-small (a .words .now)) (a .len) (l .at) (l .inv .0) _ (c .before .before .parent-of .ensures) (c .enum-told .given .1) in
     let out = set (l .out) (l .left - 1) (c .before .before .before .label-in .result) in
@@ -136,12 +142,13 @@ returns-3 c =
 
 -- where the step led
 there : (c : tie.After-known-told Inv-loop μ-loop)
-    → RiseTold (bit (c .before .before .before .before .before .before .before .before .before .before .before .before .before .before .before .before .args .words .now)) (c .before .before .before .before .before .before .before .before .before .before .before .before .before .before .before .before .args .len)
-    (c .before .before .before .before .before .before .before .before .before .before .loop .at .node)
-    (c .before .up .given .0 .0)
+    → let here = turn (labelled (c .before .before .before)) in
+    let a = start (here .before) .args in
+    RiseTold (bit (a .words .now)) (a .len) (here .loop .at .node) (c .before .up .given .0 .0)
 there c =
-    let a = c .before .before .before .before .before .before .before .before .before .before .before .before .before .before .before .before .args in
-    let l = c .before .before .before .before .before .before .before .before .before .before .loop in
+    let here = turn (labelled (c .before .before .before)) in
+    let a = start (here .before) .args in
+    let l = here .loop in
     rise-to (bit (a .words .now)) (bit-small (a .words .now)) (a .len) (l .at) (l .inv .0) _ (c .before .before .before .parent-of .ensures) _ (c .before .up .given .1)
 
 loop-less : tie.Need-loop-less Inv-loop μ-loop
@@ -149,8 +156,9 @@ loop-less c = omega arith
 
 loop-again : tie.Need-loop-again Inv-loop μ-loop
 loop-again c =
-    let a = c .before .before .before .before .before .before .before .before .before .before .before .before .before .before .before .before .args in
-    let l = c .before .before .before .before .before .before .before .before .before .before .loop in
+    let here = turn (labelled (c .before .before .before)) in
+    let a = start (here .before) .args in
+    let l = here .loop in
     let out = set (l .out) (l .left - 1) (c .before .before .before .before .label-in .result) in (
       there c .knows,
       one-more (c .before .before .before) .0,
@@ -164,7 +172,7 @@ same-length-3 c = c .before .loop .inv .1
 
 returns-4 : tie.Need-returns-4 Inv-loop μ-loop
 returns-4 c =
-    let a = c .before .before .before .before .before .before .before .args in
+    let a = start (c .before .before) .args in
     let l = c .before .loop in
     let done : l .left ≡ 0 = omega arith in
     sym

@@ -35,6 +35,28 @@ Inv-loop labels words len query whole node₀ w₀ left₀ zeros₀ sums₀ i₀
 abbrev μ-loop : tie.MeasureT-loop
 μ-loop labels words len query whole node₀ w₀ left₀ zeros₀ sums₀ i₀ node w left zeros sums i = length query - i
 
+-- ---- the states that the needs look back to: a wrong count of steps is refused here, by its type
+abbrev start : tie.At-loop Inv-loop μ-loop → tie.Start Inv-loop μ-loop
+start c = c .before .before .before .before .before
+
+abbrev passing : tie.After-pass-on Inv-loop μ-loop → tie.At-loop Inv-loop μ-loop
+passing c = c .before .before .before
+
+abbrev turn : tie.After-row-known Inv-loop μ-loop → tie.At-loop Inv-loop μ-loop
+turn c = c .before .before .before
+
+abbrev at : tie.After-ones-from Inv-loop μ-loop → tie.After-row-known Inv-loop μ-loop
+at c = c .before .before
+
+abbrev behind : tie.Else4 Inv-loop μ-loop → tie.After-ones-from Inv-loop μ-loop
+behind c = c .before .before .before .before
+
+abbrev standing : tie.After-child-within Inv-loop μ-loop → tie.After-ones-from Inv-loop μ-loop
+standing c = c .before .before .before .before
+
+abbrev went : tie.After-row-known2 Inv-loop μ-loop → tie.After-child-within Inv-loop μ-loop
+went c = c .before .before .before .before
+
 smaller-requires : tie.Need-smaller-requires Inv-loop μ-loop
 smaller-requires c κs = search needs
 
@@ -50,17 +72,17 @@ pass-on-requires c κs = search needs
 -- the word that is kept now has the node's zero
 module _ (c : tie.After-row-known Inv-loop μ-loop) where
   abbrev ws : List ℕ
-  ws = c .before .before .before .before .before .before .before .before .args .words .now
+  ws = start (turn c) .args .words .now
 
   abbrev whole : ℕ
-  whole = c .before .before .before .before .smaller .result
+  whole = turn c .before .smaller .result
 
   wide : (i : ℕ) → getD ws i 0 < 2 ^ wordBits
-  wide i = c .before .before .before .before .before .before .shared-slice-known2 .given i .fits
+  wide i = turn c .before .before .before .shared-slice-known2 .given i .fits
 
-  settled : Settled ws whole (c .before .before .before .loop .node) (c .before .if1 .w) (c .before .if1 .left) (c .before .if1 .zeros) (c .before .if1 .sums)
+  settled : Settled ws whole (turn c .loop .node) (c .before .if1 .w) (c .before .if1 .left) (c .before .if1 .zeros) (c .before .if1 .sums)
   settled =
-      let l = c .before .before .before .loop in
+      let l = turn c .loop in
       let j = c .before .if1 in
       ⊎-elim
       (λ t.
@@ -75,24 +97,21 @@ sub-ones-from : tie.Need-sub-ones-from Inv-loop μ-loop
 sub-ones-from c = settled c .kept
 
 mul-ones-from : tie.Need-mul-ones-from Inv-loop μ-loop
-mul-ones-from c = let s = settled c in omega (arith, s .inside, c .before .before .before .loop .inv .2, c .before .before .before .before .before .before .before .before .fits .len .fits)
+mul-ones-from c = let s = settled c in omega (arith, s .inside, turn c .loop .inv .2, start (turn c) .fits .len .fits)
 
 shared-slice-read-ones-from : tie.Need-shared-slice-read-ones-from Inv-loop μ-loop
-shared-slice-read-ones-from c = let s = settled (c .before) in omega (arith, s .inside, s .kept, c .before .before .before .before .loop .inv .1)
+shared-slice-read-ones-from c = let s = settled (c .before) in omega (arith, s .inside, s .kept, turn (c .before) .loop .inv .1)
 
 ones-from-requires : tie.Need-ones-from-requires Inv-loop μ-loop
 ones-from-requires c κs = search needs
 
 mul-base : tie.Need-mul-base Inv-loop μ-loop
-mul-base c = let s = settled (c .before .before) in omega (arith, s .inside, c .before .before .before .before .before .loop .inv .2, c .before .before .before .before .before .before .before .before .before .before .fits .len .fits)
+mul-base c = let r = c .before .before in let s = settled r in omega (arith, s .inside, turn r .loop .inv .2, start (turn r) .fits .len .fits)
 
 -- where the node's zero is
 module _ (c : tie.After-ones-from Inv-loop μ-loop) where
-  abbrev at : tie.After-row-known Inv-loop μ-loop
-  at = c .before .before
-
-  stands : Stood (ws at) (wide at) (whole at) (c .before .before .before .before .before .loop .node) (c .before .before .before .if1 .w) (c .before .before .before .if1 .left) (c .before .before .before .if1 .zeros) (c .before .before .before .if1 .sums) (settled at) (c .ones-from .result) (c .ones-from .ensures)
-  stands = stood (ws at) (wide at) (whole at) (c .before .before .before .before .before .loop .node) (c .before .before .before .if1 .w) (c .before .before .before .if1 .left) (c .before .before .before .if1 .zeros) (c .before .before .before .if1 .sums) (settled at) (c .ones-from .result) (c .ones-from .ensures)
+  stands : Stood (ws (at c)) (wide (at c)) (whole (at c)) (turn (at c) .loop .node) (at c .before .if1 .w) (at c .before .if1 .left) (at c .before .if1 .zeros) (at c .before .if1 .sums) (settled (at c)) (c .ones-from .result) (c .ones-from .ensures)
+  stands = stood (ws (at c)) (wide (at c)) (whole (at c)) (turn (at c) .loop .node) (at c .before .if1 .w) (at c .before .if1 .left) (at c .before .if1 .zeros) (at c .before .if1 .sums) (settled (at c)) (c .ones-from .result) (c .ones-from .ensures)
 
 sub-base : tie.Need-sub-base Inv-loop μ-loop
 sub-base c = stands c .upto
@@ -101,10 +120,10 @@ lowest-one-requires : tie.Need-lowest-one-requires Inv-loop μ-loop
 lowest-one-requires c κs = search needs
 
 add-from : tie.Need-add-from Inv-loop μ-loop
-add-from c = let s = settled (c .before .before .before) in let t = stands (c .before) in omega (arith, s .inside, s .kept, t .few, t .one, t .upto, t .near, t .lowest, c .lowest-one .ensures, c .before .before .before .before .before .before .loop .inv .2, c .before .before .before .before .before .before .before .before .before .before .before .fits .len .fits)
+add-from c = let r = at (c .before) in let s = settled r in let t = stands (c .before) in omega (arith, s .inside, s .kept, t .few, t .one, t .upto, t .near, t .lowest, c .lowest-one .ensures, turn r .loop .inv .2, start (turn r) .fits .len .fits)
 
 sub-from : tie.Need-sub-from Inv-loop μ-loop
-sub-from c = let s = settled (c .before .before .before) in let t = stands (c .before) in omega (arith, s .inside, s .kept, t .few, t .one, t .upto, t .near, t .lowest, c .lowest-one .ensures, c .before .before .before .before .before .before .loop .inv .2, c .before .before .before .before .before .before .before .before .before .before .before .fits .len .fits)
+sub-from c = let r = at (c .before) in let s = settled r in let t = stands (c .before) in omega (arith, s .inside, s .kept, t .few, t .one, t .upto, t .near, t .lowest, c .lowest-one .ensures, turn r .loop .inv .2, start (turn r) .fits .len .fits)
 
 sub-more : tie.Need-sub-more Inv-loop μ-loop
 sub-more c = omega (arith, stands (c .before) .some)
@@ -113,56 +132,63 @@ word-with-zero-requires : tie.Need-word-with-zero-requires Inv-loop μ-loop
 word-with-zero-requires c κs = search needs
 
 mul-to : tie.Need-mul-to Inv-loop μ-loop
-mul-to c = omega (arith, c .if4 .left, c .before .before .before .before .before .before .before .before .before .loop .inv .2, c .before .before .before .before .before .before .before .before .before .before .before .before .before .before .fits .len .fits)
+mul-to c = let t = turn (at (behind c)) in omega (arith, c .if4 .left, t .loop .inv .2, start t .fits .len .fits)
 
 mul-lowest-one : tie.Need-mul-lowest-one Inv-loop μ-loop
-mul-lowest-one c = omega (arith, c .if4 .left, c .before .before .before .before .before .before .before .before .before .loop .inv .2, c .before .before .before .before .before .before .before .before .before .before .before .before .before .before .fits .len .fits)
+mul-lowest-one c = let t = turn (at (behind c)) in omega (arith, c .if4 .left, t .loop .inv .2, start t .fits .len .fits)
 
 shared-slice-read-lowest-one : tie.Need-shared-slice-read-lowest-one Inv-loop μ-loop
-shared-slice-read-lowest-one c = omega (arith, c .before .if4 .left, c .before .before .before .before .before .before .before .before .before .before .loop .inv .1)
+shared-slice-read-lowest-one c = omega (arith, c .before .if4 .left, turn (at (behind (c .before))) .loop .inv .1)
 
 lowest-one-requires-2 : tie.Need-lowest-one-requires-2 Inv-loop μ-loop
 lowest-one-requires-2 c κs = search needs
 
 -- the next zero, in the word or beyond it
 abbrev Next : tie.After-ones-from Inv-loop μ-loop → ℕ → Type 0
-Next o to = NextAt (ws (at o)) (wide (at o)) (whole (at o)) (o .before .before .before .before .before .loop .node) (o .before .before .before .if1 .w) (o .before .before .before .if1 .left) (o .before .before .before .if1 .zeros) (o .before .before .before .if1 .sums) (settled (at o)) (o .ones-from .result) (o .ones-from .ensures) to
+Next o to = NextAt (ws (at o)) (wide (at o)) (whole (at o)) (turn (at o) .loop .node) (at o .before .if1 .w) (at o .before .if1 .left) (at o .before .if1 .zeros) (at o .before .if1 .sums) (settled (at o)) (o .ones-from .result) (o .ones-from .ensures) to
 
 module _ (o : tie.After-ones-from Inv-loop μ-loop) where
   abbrev node : ℕ
-  node = o .before .before .before .before .before .loop .node
+  node = turn (at o) .loop .node
 
   abbrev more : ℕ
   more = bitAnd (o .ones-from .result) (o .ones-from .result - 1)
 
-  in-word : (low : ℕ) → (more ≡ 0 → ⊥) → low ≡ trailingZeros wordBits more → Next o (o .before .before .before .if1 .w * 64 - node + low - 64) × (low < 64) × (node ≤ (o .before .before .before .if1 .w - 1) * 64 + low)
+  in-word : (low : ℕ) → (more ≡ 0 → ⊥) → low ≡ trailingZeros wordBits more → Next o (at o .before .if1 .w * 64 - node + low - 64) × (low < 64) × (node ≤ (at o .before .if1 .w - 1) * 64 + low)
   in-word low much is =
-      subst (λ (x : ℕ). Next o (o .before .before .before .if1 .w * 64 - node + x - 64) × (x < 64) × (node ≤ (o .before .before .before .if1 .w - 1) * 64 + x)) (sym is)
-      (ahead-in (ws (at o)) (wide (at o)) (whole (at o)) (o .before .before .before .before .before .loop .node) (o .before .before .before .if1 .w) (o .before .before .before .if1 .left) (o .before .before .before .if1 .zeros) (o .before .before .before .if1 .sums) (settled (at o)) (o .ones-from .result) (o .ones-from .ensures) more refl much)
+      subst (λ (x : ℕ). Next o (at o .before .if1 .w * 64 - node + x - 64) × (x < 64) × (node ≤ (at o .before .if1 .w - 1) * 64 + x)) (sym is)
+      (ahead-in (ws (at o)) (wide (at o)) (whole (at o)) (turn (at o) .loop .node) (at o .before .if1 .w) (at o .before .if1 .left) (at o .before .if1 .zeros) (at o .before .if1 .sums) (settled (at o)) (o .ones-from .result) (o .ones-from .ensures) more refl much)
 
-  beyond : (v low : ℕ) → more ≡ 0 → v < whole (at o) → ZeroWord (ws (at o)) (whole (at o)) (o .before .before .before .if1 .w) v → low ≡ trailingZeros wordBits (zeroBits (ws (at o)) v)
+  beyond : (v low : ℕ) → more ≡ 0 → v < whole (at o) → ZeroWord (ws (at o)) (whole (at o)) (at o .before .if1 .w) v → low ≡ trailingZeros wordBits (zeroBits (ws (at o)) v)
       → Next o (v * 64 + low - node) × (low < 64) × (node ≤ v * 64 + low)
   beyond v low gone l f is =
       subst (λ (x : ℕ). Next o (v * 64 + x - node) × (x < 64) × (node ≤ v * 64 + x)) (sym is)
-      (ahead-beyond (ws (at o)) (wide (at o)) (whole (at o)) (o .before .before .before .before .before .loop .node) (o .before .before .before .if1 .w) (o .before .before .before .if1 .left) (o .before .before .before .if1 .zeros) (o .before .before .before .if1 .sums) (settled (at o)) (o .ones-from .result) (o .ones-from .ensures) more refl v gone l f)
+      (ahead-beyond (ws (at o)) (wide (at o)) (whole (at o)) (turn (at o) .loop .node) (at o .before .if1 .w) (at o .before .if1 .left) (at o .before .if1 .zeros) (at o .before .if1 .sums) (settled (at o)) (o .ones-from .result) (o .ones-from .ensures) more refl v gone l f)
 
 add-to : tie.Need-add-to Inv-loop μ-loop
-add-to c = let n = beyond (c .before .before .before .before .before .before) (c .before .before .before .word-with-zero .result) (c .lowest-one2 .result) (c .before .before .before .before .if3 .taken) (omega (arith, c .before .before .if4 .left)) (c .before .before .before .word-with-zero .ensures) (c .lowest-one2 .ensures) in omega (arith, n .1, c .before .before .if4 .left, c .before .before .before .before .before .before .before .before .before .before .before .loop .inv .2, c .before .before .before .before .before .before .before .before .before .before .before .before .before .before .before .before .fits .len .fits)
+add-to c =
+    let e = c .before .before in
+    let n = beyond (behind e) (e .before .word-with-zero .result) (c .lowest-one2 .result) (e .before .before .if3 .taken) (omega (arith, e .if4 .left)) (e .before .word-with-zero .ensures) (c .lowest-one2 .ensures) in
+    let t = turn (at (behind e)) in
+    omega (arith, n .1, e .if4 .left, t .loop .inv .2, start t .fits .len .fits)
 
 sub-to : tie.Need-sub-to Inv-loop μ-loop
-sub-to c = let n = beyond (c .before .before .before .before .before .before) (c .before .before .before .word-with-zero .result) (c .lowest-one2 .result) (c .before .before .before .before .if3 .taken) (omega (arith, c .before .before .if4 .left)) (c .before .before .before .word-with-zero .ensures) (c .lowest-one2 .ensures) in n .2
+sub-to c =
+    let e = c .before .before in
+    let n = beyond (behind e) (e .before .word-with-zero .result) (c .lowest-one2 .result) (e .before .before .if3 .taken) (omega (arith, e .if4 .left)) (e .before .word-with-zero .ensures) (c .lowest-one2 .ensures) in
+    n .2
 
 lowest-one-requires-3 : tie.Need-lowest-one-requires-3 Inv-loop μ-loop
 lowest-one-requires-3 c κs = search needs
 
 add-to-2 : tie.Need-add-to-2 Inv-loop μ-loop
-add-to-2 c = let s = settled (c .before .before .before .before .before) in let t = stands (c .before .before .before) in let n = in-word (c .before .before .before) (c .lowest-one3 .result) (c .before .if3 .left) (c .lowest-one3 .ensures) in omega (arith, s .inside, s .kept, t .one, t .upto, n .1, n .2, c .before .before .before .before .before .before .before .before .loop .inv .2, c .before .before .before .before .before .before .before .before .before .before .before .before .before .fits .len .fits)
+add-to-2 c = let o = c .before .before .before in let s = settled (at o) in let t = stands o in let n = in-word o (c .lowest-one3 .result) (c .before .if3 .left) (c .lowest-one3 .ensures) in omega (arith, s .inside, s .kept, t .one, t .upto, n .1, n .2, turn (at o) .loop .inv .2, start (turn (at o)) .fits .len .fits)
 
 sub-to-2 : tie.Need-sub-to-2 Inv-loop μ-loop
-sub-to-2 c = let s = settled (c .before .before .before .before .before) in let t = stands (c .before .before .before) in let n = in-word (c .before .before .before) (c .lowest-one3 .result) (c .before .if3 .left) (c .lowest-one3 .ensures) in omega (arith, s .inside, s .kept, t .one, t .upto, n .1, n .2, c .before .before .before .before .before .before .before .before .loop .inv .2, c .before .before .before .before .before .before .before .before .before .before .before .before .before .fits .len .fits)
+sub-to-2 c = let o = c .before .before .before in let s = settled (at o) in let t = stands o in let n = in-word o (c .lowest-one3 .result) (c .before .if3 .left) (c .lowest-one3 .ensures) in omega (arith, s .inside, s .kept, t .one, t .upto, n .1, n .2, turn (at o) .loop .inv .2, start (turn (at o)) .fits .len .fits)
 
 shared-slice-read-child-within : tie.Need-shared-slice-read-child-within Inv-loop μ-loop
-shared-slice-read-child-within c = omega (arith, c .before .before .before .before .before .before .before .loop-test .taken)
+shared-slice-read-child-within c = omega (arith, at (c .before .before .before) .before .before .loop-test .taken)
 
 -- the next zero, wherever it is
 next-at : (c : tie.After-shared-slice-known6 Inv-loop μ-loop) → Next (c .before .before .before) (c .before .if3 .to)
@@ -177,27 +203,29 @@ child-within-requires c κs = search needs
 
 -- what a step answers, by the rule
 step : (c : tie.After-child-within Inv-loop μ-loop) (t : Child) → c .child-within .result ≡ t
-    → childOf (childBy (c .before .before .before .before .before .before .before .before .before .before .before .before .before .before .args .labels .now) (bit (c .before .before .before .before .before .before .before .before .before .before .before .before .before .before .args .words .now)) (c .before .before .before .before .before .before .before .before .before .before .before .before .before .before .args .len) (c .before .before .before .before .before .before .before .before .before .loop .node) (getD (c .before .before .before .before .before .before .before .before .before .before .before .before .before .before .args .query .now) (c .before .before .before .before .before .before .before .before .before .loop .i) 0)) ≡ t
+    → let l = turn (at (standing c)) .loop in
+    let a = start (turn (at (standing c))) .args in
+    childOf (childBy (a .labels .now) (bit (a .words .now)) (a .len) (l .node) (getD (a .query .now) (l .i) 0)) ≡ t
 step c t e =
-    let a = c .before .before .before .before .before .before .before .before .before .before .before .before .before .before .args in
-    let o = c .before .before .before .before in
-    let l = c .before .before .before .before .before .before .before .before .before .loop in
+    let o = standing c in
+    let a = start (turn (at o)) .args in
+    let l = turn (at o) .loop in
     let r = stands o in
     let first = c .before .before .before .lowest-one in
     let s = settled (at o) in
     ap childOf
-    (child-rule-far (ws (at o)) (wide (at o)) (whole (at o)) (l .node) (o .before .before .before .if1 .w) (o .before .before .before .if1 .left) (o .before .before .before .if1 .zeros) (o .before .before .before .if1 .sums) s (o .ones-from .result) (o .ones-from .ensures) (a .labels .now) (a .len) (getD (a .query .now) (l .i) 0)
-    (o .before .before .before .if1 .w * 64 - l .node + first .result - 63) (c .before .before .if3 .to) (l .inv .2) (omega (arith, s .kept, r .few, r .one, r .upto, r .near, r .lowest, first .ensures)) (next-at (c .before)))
+    (child-rule-far (ws (at o)) (wide (at o)) (whole (at o)) (l .node) (at o .before .if1 .w) (at o .before .if1 .left) (at o .before .if1 .zeros) (at o .before .if1 .sums) s (o .ones-from .result) (o .ones-from .ensures) (a .labels .now) (a .len) (getD (a .query .now) (l .i) 0)
+    (at o .before .if1 .w * 64 - l .node + first .result - 63) (c .before .before .if3 .to) (l .inv .2) (omega (arith, s .kept, r .few, r .one, r .upto, r .near, r .lowest, first .ensures)) (next-at (c .before)))
     ∙ sym (c .child-within .ensures)
     ∙ e
 
 -- a child is above its node, and has an entry
-bounds : (c : tie.After-child-within Inv-loop μ-loop) (m : ℕ) → c .child-within .result ≡ Node m → (c .before .before .before .before .before .before .before .before .before .loop .node < m) × (m ≤ length (c .before .before .before .before .before .before .before .before .before .before .before .before .before .before .args .labels .now) + 1)
+bounds : (c : tie.After-child-within Inv-loop μ-loop) (m : ℕ) → c .child-within .result ≡ Node m → (turn (at (standing c)) .loop .node < m) × (m ≤ length (start (turn (at (standing c))) .args .labels .now) + 1)
 bounds c m e =
-    let a = c .before .before .before .before .before .before .before .before .before .before .before .before .before .before .args in
-    let o = c .before .before .before .before in
-    let l = c .before .before .before .before .before .before .before .before .before .loop in
-    let from = o .before .before .before .if1 .w * 64 - l .node + c .before .before .before .lowest-one .result - 63 in
+    let o = standing c in
+    let a = start (turn (at o)) .args in
+    let l = turn (at o) .loop in
+    let from = at o .before .if1 .w * 64 - l .node + c .before .before .before .lowest-one .result - 63 in
     let to = c .before .before .if3 .to in
     lowest-bounds (a .labels .now) (l .node) (to - from) (from + 1) (getD (a .query .now) (l .i) 0) m
     (childOf-node (lowestBy (a .labels .now) (l .node) (to - from) (from + 1) (getD (a .query .now) (l .i) 0)) m (sym (c .child-within .ensures) ∙ e))
@@ -210,14 +238,15 @@ enum-told c = search needs
 
 returns : tie.Need-returns Inv-loop μ-loop
 returns c =
-    let a = c .before .before .before .before .before .before .before .before .before .before .before .before .before .before .before .before .args in
-    let l = c .before .before .before .before .before .before .before .before .before .before .before .loop in
+    let r = at (standing (c .before .before)) in
+    let a = start (turn r) .args in
+    let l = turn r .loop in
     let b = bit (a .words .now) in
     let lost = childOf-absent (childBy (a .labels .now) b (a .len) (l .node) (getD (a .query .now) (l .i) 0)) (step (c .before .before) _ (c .enum-told .given .1)) in
     sym
     (ap (reachedAt b (a .len))
     (l .inv .4
-    ∙ walkedFrom-next (a .labels .now) b (a .len) (a .query .now) (l .i) (l .node) (omega (arith, c .before .before .before .before .before .before .before .before .before .before .loop-test .taken))
+    ∙ walkedFrom-next (a .labels .now) b (a .len) (a .query .now) (l .i) (l .node) (omega (arith, r .before .before .loop-test .taken))
     ∙ ap (walkedFrom (a .labels .now) b (a .len) (drop (l .i + 1) (a .query .now))) lost
     ∙ walkedFrom-lost (a .labels .now) b (a .len) (drop (l .i + 1) (a .query .now))))
 
@@ -226,52 +255,54 @@ sub-left c = omega (arith, bounds (c .before .before .before) _ (c .before .m .g
 
 add-left : tie.Need-add-left Inv-loop μ-loop
 add-left c =
-    let d = bounds (c .before .before .before .before) _ (c .before .before .m .given .1) in
-    let s = settled (c .before .before .before .before .before .before .before .before .before .before) in
-    omega (arith, d, s .enough, s .own .all, zeros-most (c .before .before .before .before .before .before .before .before .before .before .before .before .before .before .before .before .before .before .args .words .now) (c .before .before .before .before .before .before .before .before .before .before .before .if1 .w - 1) (wide (c .before .before .before .before .before .before .before .before .before .before)), c .before .before .before .before .before .before .before .before .before .before .before .before .before .before .before .before .before)
+    let d = bounds (went c) _ (c .before .before .m .given .1) in
+    let k = at (standing (went c)) in
+    let s = settled k in
+    omega (arith, d, s .enough, s .own .all, zeros-most (ws k) (k .before .if1 .w - 1) (wide k), turn k .before .before .before .before)
 
 add-i : tie.Need-add-i Inv-loop μ-loop
-add-i c = omega (arith, c .before .before .before .before .before .before .before .before .before .before .before .before .loop-test .taken)
+add-i c = omega (arith, at (standing (went c)) .before .before .loop-test .taken)
 
 loop-less : tie.Need-loop-less Inv-loop μ-loop
-loop-less c = omega (arith, c .before .before .before .before .before .before .before .before .before .before .before .before .loop-test .taken)
+loop-less c = omega (arith, at (standing (went c)) .before .before .loop-test .taken)
 
 loop-again : tie.Need-loop-again Inv-loop μ-loop
 loop-again c =
-    let a = c .before .before .before .before .before .before .before .before .before .before .before .before .before .before .before .before .before .before .args in
-    let l = c .before .before .before .before .before .before .before .before .before .before .before .before .before .loop in
+    let k = at (standing (went c)) in
+    let a = start (turn k) .args in
+    let l = turn k .loop in
     let b = bit (a .words .now) in
-    let k = c .before .before .before .before .before .before .before .before .before .before in
-    let d = bounds (c .before .before .before .before) _ (c .before .before .m .given .1) in
-    let there = childOf-node (childBy (a .labels .now) b (a .len) (l .node) (getD (a .query .now) (l .i) 0)) _ (step (c .before .before .before .before) _ (c .before .before .m .given .1)) in (
-      omega (arith, c .before .before .before .before .before .before .before .before .before .before .before .before .loop-test .taken),
+    let d = bounds (went c) _ (c .before .before .m .given .1) in
+    let there = childOf-node (childBy (a .labels .now) b (a .len) (l .node) (getD (a .query .now) (l .i) 0)) _ (step (went c) _ (c .before .before .m .given .1)) in (
+      omega (arith, k .before .before .loop-test .taken),
       l .inv .1,
       l .inv .2,
       keeping-next (ws k) (whole k) (l .node) (k .before .if1 .w) (k .before .if1 .left) (k .before .if1 .zeros) (k .before .if1 .sums) (c .before .before .m .given .0 .0) (settled k) (omega (arith, d)),
       l .inv .4
-          ∙ walkedFrom-next (a .labels .now) b (a .len) (a .query .now) (l .i) (l .node) (omega (arith, c .before .before .before .before .before .before .before .before .before .before .before .before .loop-test .taken))
+          ∙ walkedFrom-next (a .labels .now) b (a .len) (a .query .now) (l .i) (l .node) (omega (arith, k .before .before .loop-test .taken))
           ∙ ap (walkedFrom (a .labels .now) b (a .len) (drop (l .i + 1) (a .query .now))) there,
     )
 
 returns-2 : tie.Need-returns-2 Inv-loop μ-loop
 returns-2 c =
-    let a = c .before .before .before .before .before .before .args in
+    let a = start (c .before) .args in
     let l = c .before .loop in
     gone-rule (a .labels .now) (a .words .now) (a .len) (a .query .now) (l .node) (l .i) (l .w) (l .left) (l .inv .4)
     (keeping-stand (a .words .now) (c .before .before .smaller .result) (l .node) (l .w) (l .left) (l .zeros) (l .sums) (a .len) (l .inv .3))
 
 returns-3 : tie.Need-returns-3 Inv-loop μ-loop
 returns-3 c =
-    let a = c .before .before .before .before .before .before .before .before .before .before .args in
-    let l = c .before .before .before .before .before .loop in
+    let t = passing (c .before .before) in
+    let a = start t .args in
+    let l = t .loop in
     gone-rule (a .labels .now) (a .words .now) (a .len) (a .query .now) (l .node) (l .i) (l .w) (l .left) (l .inv .4)
-    (keeping-stand (a .words .now) (c .before .before .before .before .before .before .smaller .result) (l .node) (l .w) (l .left) (l .zeros) (l .sums) (a .len) (l .inv .3))
+    (keeping-stand (a .words .now) (t .before .smaller .result) (l .node) (l .w) (l .left) (l .zeros) (l .sums) (a .len) (l .inv .3))
 
 returns-4 : tie.Need-returns-4 Inv-loop μ-loop
 returns-4 c =
-    let a = c .before .before .before .before .before .before .before .before .before .before .before .before .before .before .args in
-    let l = c .before .before .before .before .before .before .before .before .before .loop in
-    let k = c .before .before .before .before .before .before in
+    let k = at (c .before .before .before .before) in
+    let a = start (turn k) .args in
+    let l = turn k .loop in
     let n = k .before .if1 in
     gone-rule (a .labels .now) (a .words .now) (a .len) (a .query .now) (l .node) (l .i) (n .w) (n .left) (l .inv .4)
     (keeping-stand (a .words .now) (whole k) (l .node) (n .w) (n .left) (n .zeros) (n .sums) (a .len) (settled-keeping (a .words .now) (whole k) (l .node) (n .w) (n .left) (n .zeros) (n .sums) (settled k)))

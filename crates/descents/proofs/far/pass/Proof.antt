@@ -13,6 +13,13 @@ Inv-loop words whole first k w₀ left₀ sums₀ w left sums = (whole ≤ lengt
 abbrev μ-loop : tie.MeasureT-loop
 μ-loop words whole first k w₀ left₀ sums₀ w left sums = whole - w
 
+-- ---- the states that the needs look back to: a wrong count of steps is refused here, by its type
+abbrev start : tie.At-loop Inv-loop μ-loop → tie.Start Inv-loop μ-loop
+start c = c .before .before .before
+
+abbrev turn : tie.After-ones-by-byte Inv-loop μ-loop → tie.At-loop Inv-loop μ-loop
+turn c = c .before .before .before .before
+
 returns : tie.Need-returns Inv-loop μ-loop
 returns c h there = absurd (omega (arith, there))
 
@@ -42,15 +49,15 @@ loop-less c = omega (arith, c .before .before .if2 .left)
 
 loop-again : tie.Need-loop-again Inv-loop μ-loop
 loop-again c =
-    let a = c .before .before .before .before .before .before .before .args in
-    let l = c .before .before .before .before .loop in (
+    let a = start (turn c) .args in
+    let l = turn c .loop in (
       l .inv .0,
       passing-next (a .words .now) (λ i. c .before .shared-slice-known2 .given i .fits) (a .whole) (a .first) (a .k) (l .w) (l .left) (l .sums) (c .ones-by-byte .result) (l .inv .1) (c .before .before .before .loop-test .taken) (omega (arith, c .before .before .if2 .left)) (c .ones-by-byte .ensures),
     )
 
 returns-3 : tie.Need-returns-3 Inv-loop μ-loop
 returns-3 c =
-    let a = c .before .before .before .before .args in
+    let a = start (c .before) .args in
     let l = c .before .loop in
     passing-found (a .words .now) (λ i. c .before .before .before .shared-slice-known .given i .fits) (a .whole) (a .first) (a .k) (l .w) (l .left) (l .sums) (l .inv .1) (c .loop-test .left)
 

@@ -17,6 +17,19 @@ Inv-loop words whole first k w₀ left₀ w left = (w ≤ whole) × (whole ≤ l
 abbrev μ-loop : tie.MeasureT-loop
 μ-loop words whole first k w₀ left₀ w left = whole - w
 
+-- ---- the states that the needs look back to: a wrong count of steps is refused here, by its type
+abbrev start : tie.At-loop Inv-loop μ-loop → tie.Start Inv-loop μ-loop
+start c = c .before .before .before .before
+
+abbrev turn : tie.After-ones-in Inv-loop μ-loop → tie.At-loop Inv-loop μ-loop
+turn c = c .before .before .before
+
+abbrev first-word : tie.After-ones-in3 Inv-loop μ-loop → tie.After-ones-in Inv-loop μ-loop
+first-word c = c .before .before .before .before
+
+abbrev third-word : tie.After-ones-in4 Inv-loop μ-loop → tie.After-ones-in3 Inv-loop μ-loop
+third-word c = c .before .before
+
 returns : tie.Need-returns Inv-loop μ-loop
 returns c = let a = c .before .before .args in nothing-passed (a .words .now) (a .first) (a .k)
 
@@ -51,7 +64,7 @@ ones-in-requires-2 : tie.Need-ones-in-requires-2 Inv-loop μ-loop
 ones-in-requires-2 c κs = search needs
 
 add-ones : tie.Need-add-ones Inv-loop μ-loop
-add-ones c = omega (arith, c .before .before .ones-in .ensures, c .ones-in2 .ensures, ones-most (c .before .before .before .before .before .before .before .before .before .args .words .now) (λ i. c .before .shared-slice-known3 .given i .fits) (c .before .before .before .before .before .loop .w), ones-most (c .before .before .before .before .before .before .before .before .before .args .words .now) (λ i. c .before .shared-slice-known3 .given i .fits) (c .before .before .before .before .before .loop .w + 1))
+add-ones c = let t = turn (c .before .before) in omega (arith, c .before .before .ones-in .ensures, c .ones-in2 .ensures, ones-most (start t .args .words .now) (λ i. c .before .shared-slice-known3 .given i .fits) (t .loop .w), ones-most (start t .args .words .now) (λ i. c .before .shared-slice-known3 .given i .fits) (t .loop .w + 1))
 
 add-ones-in-2 : tie.Need-add-ones-in-2 Inv-loop μ-loop
 add-ones-in-2 c = omega (arith, c .before .before .before .before .loop-test .taken)
@@ -60,26 +73,26 @@ mul-ones-in-3 : tie.Need-mul-ones-in-3 Inv-loop μ-loop
 mul-ones-in-3 c = search needs
 
 shared-slice-read-ones-in-3 : tie.Need-shared-slice-read-ones-in-3 Inv-loop μ-loop
-shared-slice-read-ones-in-3 c = omega (arith, c .before .before .before .before .before .before .loop .inv .1, c .before .before .before .before .before .loop-test .taken)
+shared-slice-read-ones-in-3 c = let o = c .before .before .before in omega (arith, turn o .loop .inv .1, o .before .before .loop-test .taken)
 
 ones-in-requires-3 : tie.Need-ones-in-requires-3 Inv-loop μ-loop
 ones-in-requires-3 c κs = search needs
 
 -- a word has no more than 64 ones
-few : (c : tie.After-ones-in3 Inv-loop μ-loop) (d : ℕ) → ones (getD (c .before .before .before .before .before .before .before .before .before .before .before .args .words .now) d 0) ≤ 64
-few c d = ones-most (c .before .before .before .before .before .before .before .before .before .before .before .args .words .now) (λ i. c .before .shared-slice-known4 .given i .fits) d
+few : (c : tie.After-ones-in3 Inv-loop μ-loop) (d : ℕ) → ones (getD (start (turn (first-word c)) .args .words .now) d 0) ≤ 64
+few c d = ones-most (start (turn (first-word c)) .args .words .now) (λ i. c .before .shared-slice-known4 .given i .fits) d
 
 add-ones-2 : tie.Need-add-ones-2 Inv-loop μ-loop
-add-ones-2 c = omega (arith, c .before .before .before .before .ones-in .ensures, c .before .before .ones-in2 .ensures, c .ones-in3 .ensures, few c (c .before .before .before .before .before .before .before .loop .w), few c (c .before .before .before .before .before .before .before .loop .w + 1), few c (c .before .before .before .before .before .before .before .loop .w + 2))
+add-ones-2 c = let t = turn (first-word c) in omega (arith, first-word c .ones-in .ensures, c .before .before .ones-in2 .ensures, c .ones-in3 .ensures, few c (t .loop .w), few c (t .loop .w + 1), few c (t .loop .w + 2))
 
 add-ones-in-3 : tie.Need-add-ones-in-3 Inv-loop μ-loop
-add-ones-in-3 c = omega (arith, c .before .before .before .before .before .before .loop-test .taken)
+add-ones-in-3 c = omega (arith, first-word c .before .before .loop-test .taken)
 
 mul-ones-in-4 : tie.Need-mul-ones-in-4 Inv-loop μ-loop
 mul-ones-in-4 c = search needs
 
 shared-slice-read-ones-in-4 : tie.Need-shared-slice-read-ones-in-4 Inv-loop μ-loop
-shared-slice-read-ones-in-4 c = omega (arith, c .before .before .before .before .before .before .before .before .loop .inv .1, c .before .before .before .before .before .before .before .loop-test .taken)
+shared-slice-read-ones-in-4 c = let o = first-word (c .before) in omega (arith, turn o .loop .inv .1, o .before .before .loop-test .taken)
 
 ones-in-requires-4 : tie.Need-ones-in-requires-4 Inv-loop μ-loop
 ones-in-requires-4 c κs = search needs
@@ -87,16 +100,16 @@ ones-in-requires-4 c κs = search needs
 -- the ones of all four
 module _ (c : tie.After-ones-in4 Inv-loop μ-loop) where
   abbrev ws : List ℕ
-  ws = c .before .before .before .before .before .before .before .before .before .before .before .before .before .args .words .now
+  ws = start (turn (first-word (third-word c))) .args .words .now
 
   abbrev at : ℕ
-  at = c .before .before .before .before .before .before .before .before .before .loop .w
+  at = turn (first-word (third-word c)) .loop .w
 
-  all-four : c .before .before .before .before .before .before .ones-in .result + c .before .before .before .before .ones-in2 .result + c .before .before .ones-in3 .result + c .ones-in4 .result
+  all-four : first-word (third-word c) .ones-in .result + third-word c .before .before .ones-in2 .result + third-word c .ones-in3 .result + c .ones-in4 .result
       ≡ ones (getD ws at 0) + ones (getD ws (at + 1) 0) + ones (getD ws (at + 2) 0) + ones (getD ws (at + 3) 0)
-  all-four = omega (arith, c .before .before .before .before .before .before .ones-in .ensures, c .before .before .before .before .ones-in2 .ensures, c .before .before .ones-in3 .ensures, c .ones-in4 .ensures)
+  all-four = omega (arith, first-word (third-word c) .ones-in .ensures, third-word c .before .before .ones-in2 .ensures, third-word c .ones-in3 .ensures, c .ones-in4 .ensures)
 
-  most : c .before .before .before .before .before .before .ones-in .result + c .before .before .before .before .ones-in2 .result + c .before .before .ones-in3 .result + c .ones-in4 .result ≤ 256
+  most : first-word (third-word c) .ones-in .result + third-word c .before .before .ones-in2 .result + third-word c .ones-in3 .result + c .ones-in4 .result ≤ 256
   most =
       let few : (i : ℕ) → ones (getD ws i 0) ≤ 64 = ones-most ws (λ i. c .before .shared-slice-known5 .given i .fits) in
       omega (arith, all-four, few at, few (at + 1), few (at + 2), few (at + 3))
@@ -108,23 +121,25 @@ sub-zeros : tie.Need-sub-zeros Inv-loop μ-loop
 sub-zeros c = most c
 
 returns-3 : tie.Need-returns-3 Inv-loop μ-loop
-returns-3 c = c .before .before .before .before .before .before .before .before .before .before .loop .inv .2
+returns-3 c = turn (first-word (third-word (c .before))) .loop .inv .2
 
 sub-left : tie.Need-sub-left Inv-loop μ-loop
 sub-left c = omega (arith, c .if3 .left)
 
 add-w : tie.Need-add-w Inv-loop μ-loop
-add-w c = omega (arith, c .before .before .before .before .before .before .before .before .before .loop-test .taken)
+add-w c = omega (arith, first-word (third-word (c .before)) .before .before .loop-test .taken)
 
 loop-less : tie.Need-loop-less Inv-loop μ-loop
-loop-less c = omega (arith, c .before .before .before .before .before .before .before .before .before .loop-test .taken)
+loop-less c = omega (arith, first-word (third-word (c .before)) .before .before .loop-test .taken)
 
 loop-again : tie.Need-loop-again Inv-loop μ-loop
 loop-again c =
-    let a = c .before .before .before .before .before .before .before .before .before .before .before .before .before .before .args in
-    let l = c .before .before .before .before .before .before .before .before .before .before .loop in
-    let there = c .before .before .before .before .before .before .before .ones-in .result + c .before .before .before .before .before .ones-in2 .result + c .before .before .before .ones-in3 .result + c .before .ones-in4 .result in (
-      omega (arith, c .before .before .before .before .before .before .before .before .before .loop-test .taken),
+    let t = third-word (c .before) in
+    let o = first-word t in
+    let a = start (turn o) .args in
+    let l = turn o .loop in
+    let there = o .ones-in .result + t .before .before .ones-in2 .result + t .ones-in3 .result + c .before .ones-in4 .result in (
+      omega (arith, o .before .before .loop-test .taken),
       l .inv .1,
       four-passed (a .words .now) (λ i. c .before .before .shared-slice-known5 .given i .fits) (a .first) (a .k) (l .w) (l .left) there (256 - there) (l .inv .2) (all-four (c .before)) refl (most (c .before)) (omega (arith, c .if3 .left)),
     )

@@ -11,6 +11,10 @@ use Rattle.descents.proofs.Laws.Far.{near-beyond}
 use Rattle.descents.proofs.far.stand_near.Statement.{statement}
 use Rattle.descents.proofs.far.stand_near.Tie as tie
 
+-- ---- the state that the needs look back to: a wrong count of steps is refused here, by its type
+abbrev start : tie.After-larger → tie.Start
+start c = c .before .before
+
 larger-requires : tie.Need-larger-requires
 larger-requires c κs = search needs
 
@@ -19,11 +23,11 @@ sub-last c = omega (arith, c .larger .ensures)
 
 returns : tie.Need-returns
 returns c =
-    let a = c .before .before .before .args in
+    let a = start (c .before) .args in
     sym (near-beyond (a .words .now) (a .len) (a .node) (a .kept) (a .left) (omega (arith, c .before .larger .ensures, c .if1 .taken)))
 
 mul-zero-from : tie.Need-mul-zero-from
-mul-zero-from c = omega (arith, c .if1 .left, c .before .before .before .fits .len .fits)
+mul-zero-from c = omega (arith, c .if1 .left, start (c .before) .fits .len .fits)
 
 zero-from-requires : tie.Need-zero-from-requires
 zero-from-requires c κs = search needs
@@ -33,9 +37,10 @@ or-end-requires c κs = search needs
 
 returns-2 : tie.Need-returns-2
 returns-2 c =
-    let a = c .before .before .before .before .before .args in
+    let r = c .before .before .before in
+    let a = start r .args in
     let b = bit (a .words .now) in
-    let from : (c .before .before .before .larger .result - 1) * wordBits ≡ (a .kept - 1) * wordBits = omega (arith, c .before .before .before .larger .ensures) in
+    let from : (r .larger .result - 1) * wordBits ≡ (a .kept - 1) * wordBits = omega (arith, r .larger .ensures) in
     let zero : c .or-end .result ≡ orEnd (a .len) (zeroFrom b (a .len) ((a .kept - 1) * wordBits) (a .left)) =
     c .or-end .ensures ∙ ap (orEnd (a .len)) (c .before .zero-from .ensures ∙ ap (λ (x : ℕ). zeroFrom b (a .len) x (a .left)) from) in
     λ x. record { node = a .node; zero = zero x }

@@ -15,6 +15,13 @@ Inv-loop words whole first w₀ w = (first ≤ w) × (zerosUpTo words w ≡ zero
 abbrev μ-loop : tie.MeasureT-loop
 μ-loop words whole first w₀ w = whole - w
 
+-- ---- the states that the needs look back to: a wrong count of steps is refused here, by its type
+abbrev start : tie.At-loop Inv-loop μ-loop → tie.Start Inv-loop μ-loop
+start c = c .before .before
+
+abbrev turn : tie.After-shared-slice-known Inv-loop μ-loop → tie.At-loop Inv-loop μ-loop
+turn c = c .before .before
+
 returns : tie.Need-returns Inv-loop μ-loop
 returns c h = absurd (omega (arith, h))
 
@@ -29,7 +36,7 @@ shared-slice-read-if2 c = omega (arith, c .before .before .loop .inv .2)
 
 returns-2 : tie.Need-returns-2 Inv-loop μ-loop
 returns-2 c h =
-    let l = c .before .before .before .loop in
+    let l = turn (c .before) .loop in
     record { behind = l .inv .0; same = l .inv .1; some = λ none. omega (arith, none, c .if2 .taken, c .before .shared-slice-known .given (l .w) .fits) }
 
 add-w : tie.Need-add-w Inv-loop μ-loop
@@ -40,8 +47,9 @@ loop-less c = omega arith
 
 loop-again : tie.Need-loop-again Inv-loop μ-loop
 loop-again c =
-    let a = c .before .before .before .before .before .args in
-    let l = c .before .before .before .loop in
+    let t = turn (c .before) in
+    let a = start t .args in
+    let l = t .loop in
     (omega (arith, l .inv .0), none-next (a .words .now) (λ i. c .before .shared-slice-known .given i .fits) (l .w) (omega (arith, c .if2 .left)) ∙ l .inv .1, l .inv .2)
 
 returns-3 : tie.Need-returns-3 Inv-loop μ-loop

@@ -10,12 +10,18 @@ use borrow.Author.Needs.{needs}
 use Rattle.descents.proofs.queries.end_of.Statement.{statement}
 use Rattle.descents.proofs.queries.end_of.Tie as tie
 
+-- ---- the state that the needs look back to: a wrong count of steps is refused here, by its type
+abbrev start : tie.After-reach-end → tie.Start
+start c = c .before .before .before .before
+
 reach-end-requires : tie.Need-reach-end-requires
 reach-end-requires c κs = search needs
 
 -- where the walk ended, by the rule
-told : (c : tie.After-reach-end) (r : Ended) → c .reach-end .result ≡ r → reachedAt (bit (c .before .before .before .before .args .words .now)) (c .before .before .before .before .args .len) (walked (c .before .before .before .before .args .labels .now) (bit (c .before .before .before .before .args .words .now)) (c .before .before .before .before .args .len) (c .before .before .before .before .args .query .now)) ≡ endedAt (bit (c .before .before .before .before .args .words .now)) (c .before .before .before .before .args .len) r
-told c r e = sym (c .reach-end .ensures) ∙ ap (endedAt (bit (c .before .before .before .before .args .words .now)) (c .before .before .before .before .args .len)) e
+told : (c : tie.After-reach-end) (r : Ended) → c .reach-end .result ≡ r
+    → let a = start c .args in
+    reachedAt (bit (a .words .now)) (a .len) (walked (a .labels .now) (bit (a .words .now)) (a .len) (a .query .now)) ≡ endedAt (bit (a .words .now)) (a .len) r
+told c r e = sym (c .reach-end .ensures) ∙ ap (endedAt (bit (start c .args .words .now)) (start c .args .len)) e
 
 enum-known-node : tie.Need-enum-known-node
 enum-known-node c = search needs
@@ -28,7 +34,7 @@ enum-told c = search needs
 
 returns : tie.Need-returns
 returns c =
-    let a = c .before .before .before .before .before .before .before .args in
+    let a = start (c .before .before .before) .args in
     let b = bit (a .words .now) in
     let at = c .before .node .given in
     let near = standNear b (a .len) (at .0 .0) (at .0 .1 .0) (at .0 .1 .1 .0) in
@@ -36,14 +42,14 @@ returns c =
 
 returns-2 : tie.Need-returns-2
 returns-2 c =
-    let a = c .before .before .before .before .before .before .before .args in
+    let a = start (c .before .before .before) .args in
     let b = bit (a .words .now) in
     let at = c .before .s .given in
     sym (ap childOf (reachedAt-to b (a .len) (walked (a .labels .now) b (a .len) (a .query .now)) (at .0 .0) (told (c .before .before .before) _ (at .1)) .node))
 
 returns-3 : tie.Need-returns-3
 returns-3 c =
-    let a = c .before .before .before .before .before .before .args in
+    let a = start (c .before .before) .args in
     let b = bit (a .words .now) in
     sym (ap childOf (reachedAt-lost b (a .len) (walked (a .labels .now) b (a .len) (a .query .now)) (told (c .before .before) _ (c .enum-told .given .1))))
 

@@ -22,6 +22,13 @@ Inv-loop labels words len query node kept left steps s₀ j₀ s j =
 abbrev μ-loop : tie.MeasureT-loop
 μ-loop labels words len query node kept left steps s₀ j₀ s j = length query - j
 
+-- ---- the states that the needs look back to: a wrong count of steps is refused here, by its type
+abbrev start : tie.At-loop Inv-loop μ-loop → tie.Start Inv-loop μ-loop
+start c = c .before .before .before .before .before
+
+abbrev turn : tie.After-down Inv-loop μ-loop → tie.At-loop Inv-loop μ-loop
+turn c = c .before .before .before
+
 stand-near-requires : tie.Need-stand-near-requires Inv-loop μ-loop
 stand-near-requires c κs = search needs
 
@@ -38,11 +45,13 @@ down-requires c κs = search needs
 
 -- a step down, and what is left from there
 next : (c : tie.After-down Inv-loop μ-loop) (t : Reached) → c .down .result ≡ t
-    → downAlong (c .before .before .before .before .before .before .before .before .args .labels .now) (bit (c .before .before .before .before .before .before .before .before .args .words .now)) (c .before .before .before .before .before .before .before .before .args .len) (drop (c .before .before .before .loop .j) (c .before .before .before .before .before .before .before .before .args .query .now)) (To (c .before .before .before .loop .s))
-    ≡ downAlong (c .before .before .before .before .before .before .before .before .args .labels .now) (bit (c .before .before .before .before .before .before .before .before .args .words .now)) (c .before .before .before .before .before .before .before .before .args .len) (drop (c .before .before .before .loop .j + 1) (c .before .before .before .before .before .before .before .before .args .query .now)) t
+    → let a = start (turn c) .args in
+    let l = turn c .loop in
+    downAlong (a .labels .now) (bit (a .words .now)) (a .len) (drop (l .j) (a .query .now)) (To (l .s))
+    ≡ downAlong (a .labels .now) (bit (a .words .now)) (a .len) (drop (l .j + 1) (a .query .now)) t
 next c t e =
-    let a = c .before .before .before .before .before .before .before .before .args in
-    let l = c .before .before .before .loop in
+    let a = start (turn c) .args in
+    let l = turn c .loop in
     let b = bit (a .words .now) in
     downAlong-next (a .labels .now) b (a .len) (a .query .now) (l .j) (l .s) (omega arith)
     ∙ ap (downAlong (a .labels .now) b (a .len) (drop (l .j + 1) (a .query .now))) (sym (c .down .ensures) ∙ e)
@@ -55,8 +64,9 @@ enum-told c = search needs
 
 returns : tie.Need-returns Inv-loop μ-loop
 returns c =
-    let a = c .before .before .before .before .before .before .before .before .before .before .args in
-    let l = c .before .before .before .before .before .loop in
+    let t = turn (c .before .before) in
+    let a = start t .args in
+    let l = t .loop in
     sym (l .inv ∙ next (c .before .before) _ (c .enum-told .given .1) ∙ downAlong-lost (a .labels .now) (bit (a .words .now)) (a .len) (drop (l .j + 1) (a .query .now)))
 
 add-j : tie.Need-add-j Inv-loop μ-loop
@@ -66,11 +76,11 @@ loop-less : tie.Need-loop-less Inv-loop μ-loop
 loop-less c = omega arith
 
 loop-again : tie.Need-loop-again Inv-loop μ-loop
-loop-again c = c .before .before .before .before .before .before .loop .inv ∙ next (c .before .before .before) _ (c .before .t .given .1)
+loop-again c = turn (c .before .before .before) .loop .inv ∙ next (c .before .before .before) _ (c .before .t .given .1)
 
 returns-2 : tie.Need-returns-2 Inv-loop μ-loop
 returns-2 c =
-    let a = c .before .before .before .before .before .before .args in
+    let a = start (c .before) .args in
     let l = c .before .loop in
     sym (l .inv ∙ downAlong-over (a .labels .now) (bit (a .words .now)) (a .len) (a .query .now) (l .j) (To (l .s)) (omega arith))
 

@@ -29,26 +29,39 @@ use Rattle.listings.proofs.cursors.step.Statement.{statement}
 use Rattle.listings.proofs.cursors.step.Tie as tie
 
 abbrev imageAt : tie.Start → Image
-imageAt start = imageIn (start .args .labels) (start .args .values) (start .args .words)
+imageAt s = imageIn (s .args .labels) (s .args .values) (s .args .words)
 
 abbrev mapAt : tie.Start → Map
-mapAt start = imageMap (imageAt start)
+mapAt s = imageMap (imageAt s)
+
+-- ---- the states that the needs look back to: a wrong count of steps is refused here, by its type
+abbrev start : tie.After-is-image → tie.Start
+start c = c .before .before .before .before
+
+abbrev passed : tie.After-stands → tie.Else1
+passed c = c .before .before .before .before
+
+abbrev origin : tie.Else2 → tie.Start
+origin c = start (passed (c .before) .before)
+
+abbrev stood : tie.After-known-told2 → tie.Else2
+stood c = c .before .before .before .before
 
 is-image-requires : tie.Need-is-image-requires
 is-image-requires c κs = search needs
 
 returns : tie.Need-returns
 returns c =
-    let start = c .before .before .before .before .before in
-    sym (stepSays-refused (imageAt start) (start .args .cursor) (sym (c .before .is-image .ensures) ∙ not-true _ (c .if1 .taken)))
+    let s = start (c .before) in
+    sym (stepSays-refused (imageAt s) (s .args .cursor) (sym (c .before .is-image .ensures) ∙ not-true _ (c .if1 .taken)))
 
 -- past the test the image is a map's
-tested : (c : tie.Else1) → imageTest (imageAt (c .before .before .before .before .before)) ≡ true
+tested : (c : tie.Else1) → imageTest (imageAt (start (c .before))) ≡ true
 tested c = sym (c .before .is-image .ensures) ∙ not-false _ (c .if1 .left)
 
-whole : (c : tie.Else1) → MapImage (imageAt (c .before .before .before .before .before))
+whole : (c : tie.Else1) → MapImage (imageAt (start (c .before)))
 whole c =
-    tested-mapImage (imageAt (c .before .before .before .before .before))
+    tested-mapImage (imageAt (start (c .before)))
     (record { words-wide = λ w. c .before .before .shared-slice-known3 .given w .fits; values-wide = λ e. c .before .before .before .shared-slice-known2 .given e .fits })
     (tested c)
 
@@ -60,9 +73,10 @@ enum-told c = c .match .keys2
 
 returns-2 : tie.Need-returns-2
 returns-2 c =
-    let i = imageAt (c .before .before .before .before .before .before .before) in
+    let p = c .before .before in
+    let i = imageAt (start (p .before)) in
     ap (λ (d : Cursor). 0 ∷ 0 ∷ saidCursor d) (c .enum-told .given .1)
-    ∙ sym (ap (stepSays i) (c .enum-told .given .1) ∙ stepSays-finished i _ (tested (c .before .before)))
+    ∙ sym (ap (stepSays i) (c .enum-told .given .1) ∙ stepSays-finished i _ (tested p))
 
 mul-len : tie.Need-mul-len
 mul-len c = search needs
@@ -75,11 +89,12 @@ stands-requires c κs = search needs
 
 returns-3 : tie.Need-returns-3
 returns-3 c =
-    let i = imageAt (c .before .before .before .before .before .before .before .before .before .before) in
+    let p = passed (c .before) in
+    let i = imageAt (start (p .before)) in
     sym
     (ap (stepSays i) (c .before .before .before .cursor .given .1)
-    ∙ stepSays-bad i _ _ _ (tested (c .before .before .before .before .before))
-    (sym (stands-path i (whole (c .before .before .before .before .before)) _ _ _) ∙ sym (c .before .stands .ensures) ∙ not-true _ (c .if2 .taken)))
+    ∙ stepSays-bad i _ _ _ (tested p)
+    (sym (stands-path i (whole p) _ _ _) ∙ sym (c .before .stands .ensures) ∙ not-true _ (c .if2 .taken)))
 
 cast-next-given : tie.Need-cast-next-given
 cast-next-given c = search needs
@@ -98,17 +113,17 @@ abbrev lastAt : tie.Else2 → ℕ
 lastAt c = c .before .before .before .cursor .given .0 .1 .1 .0
 
 abbrev nextAt : tie.Else2 → Option Entry
-nextAt c = nextIn (mapAt (c .before .before .before .before .before .before .before .before .before .before)) (setOf (mapAt (c .before .before .before .before .before .before .before .before .before .before)) (kindAt c) (pathOf (mapAt (c .before .before .before .before .before .before .before .before .before .before)) (topAt c))) (lastAt c)
+nextAt c = let m = mapAt (origin c) in nextIn m (setOf m (kindAt c) (pathOf m (topAt c))) (lastAt c)
 
 -- they belong
-belonging : (c : tie.Else2) → belongs (mapAt (c .before .before .before .before .before .before .before .before .before .before)) (Open (kindAt c) (topAt c) (lastAt c)) ≡ true
+belonging : (c : tie.Else2) → belongs (mapAt (origin c)) (Open (kindAt c) (topAt c) (lastAt c)) ≡ true
 belonging c =
-    sym (stands-path _ (whole (c .before .before .before .before .before)) (kindAt c) (topAt c) (lastAt c)) ∙ sym (c .before .stands .ensures) ∙ not-false _ (c .if2 .left)
+    sym (stands-path _ (whole (passed (c .before))) (kindAt c) (topAt c) (lastAt c)) ∙ sym (c .before .stands .ensures) ∙ not-false _ (c .if2 .left)
 
-says : (c : tie.Else2) → stepSays (imageAt (c .before .before .before .before .before .before .before .before .before .before)) (c .before .before .before .before .before .before .before .before .before .before .args .cursor) ≡ saysStep (mapAt (c .before .before .before .before .before .before .before .before .before .before)) (kindAt c) (topAt c) (nextAt c)
+says : (c : tie.Else2) → stepSays (imageAt (origin c)) (origin c .args .cursor) ≡ saysStep (mapAt (origin c)) (kindAt c) (topAt c) (nextAt c)
 says c =
-    let i = imageAt (c .before .before .before .before .before .before .before .before .before .before) in
-    ap (stepSays i) (c .before .before .before .cursor .given .1) ∙ stepSays-open i (kindAt c) (topAt c) (lastAt c) (tested (c .before .before .before .before .before)) (belonging c)
+    let i = imageAt (origin c) in
+    ap (stepSays i) (c .before .before .before .cursor .given .1) ∙ stepSays-open i (kindAt c) (topAt c) (lastAt c) (tested (passed (c .before))) (belonging c)
 
 next-given-requires : tie.Need-next-given-requires
 next-given-requires c κs = search needs
@@ -117,20 +132,23 @@ enum-known-node : tie.Need-enum-known-node
 enum-known-node c = c .match2 .keys1
 
 -- what was given is the next entry of the cursor's set
-gives : (c : tie.After-next-given) → givenBy (mapAt (c .before .before .before .before .before .before .before .before .before .before .before)) (nextAt (c .before)) ≡ c .next-given .result
+gives : (c : tie.After-next-given) → givenBy (mapAt (origin (c .before))) (nextAt (c .before)) ≡ c .next-given .result
 gives c =
-    sym (given-path _ (whole (c .before .before .before .before .before .before)) (kindAt (c .before)) (topAt (c .before)) (lastAt (c .before)) (belonging (c .before)))
+    sym (given-path _ (whole (passed (c .before .before))) (kindAt (c .before)) (topAt (c .before)) (lastAt (c .before)) (belonging (c .before)))
     ∙ sym (c .next-given .ensures)
 
 -- the node given is a node, so that its number fits
-inside : (c : tie.After-known-told2) → IsNode (mapAt (c .before .before .before .before .before .before .before .before .before .before .before .before .before .before)) (c .before .node .given .0 .0)
+inside : (c : tie.After-known-told2) → IsNode (mapAt (origin (stood c))) (c .before .node .given .0 .0)
 inside c =
-    let m = mapAt (c .before .before .before .before .before .before .before .before .before .before .before .before .before .before) in
-    let b = c .before .before .before .before in
-    given-inside m (whole (c .before .before .before .before .before .before .before .before .before) .catalogue .rising) (kindAt b) (pathOf m (topAt b)) (lastAt b) _ _ (gives (c .before .before .before) ∙ c .before .node .given .1)
+    let b = stood c in
+    let m = mapAt (origin b) in
+    given-inside m (whole (passed (b .before)) .catalogue .rising) (kindAt b) (pathOf m (topAt b)) (lastAt b) _ _ (gives (c .before .before .before) ∙ c .before .node .given .1)
 
 fits : (c : tie.After-known-told2) → c .before .node .given .0 .0 ≤ mostRecords + 1
-fits c = let i = imageAt (c .before .before .before .before .before .before .before .before .before .before .before .before .before .before) in omega (arith, inside c .1, length-nodes i (whole (c .before .before .before .before .before .before .before .before .before)), whole (c .before .before .before .before .before .before .before .before .before) .few)
+fits c =
+    let b = stood c in
+    let map = whole (passed (b .before)) in
+    omega (arith, inside c .1, length-nodes (imageAt (origin b)) map, map .few)
 
 cast-t17 : tie.Need-cast-t17
 cast-t17 c = omega (arith, fits c)
@@ -149,7 +167,7 @@ returns-4 c =
     let b = c .before .before .before .before in
     sym
     (says b
-    ∙ saysStep-entry (mapAt (c .before .before .before .before .before .before .before .before .before .before .before .before .before .before)) (kindAt b) (topAt b) (nextAt b) _ _ (gives (c .before .before .before) ∙ c .before .node .given .1))
+    ∙ saysStep-entry (mapAt (origin b)) (kindAt b) (topAt b) (nextAt b) _ _ (gives (c .before .before .before) ∙ c .before .node .given .1))
 
 returns-5 : tie.Need-returns-5
 returns-5 c =
@@ -157,7 +175,7 @@ returns-5 c =
     ap (λ (d : Cursor). 0 ∷ 0 ∷ saidCursor d) (c .finished .ensures)
     ∙ sym
     (says b
-    ∙ saysStep-nothing (mapAt (c .before .before .before .before .before .before .before .before .before .before .before .before .before .before)) (kindAt b) (topAt b) (nextAt b) (gives (c .before .before .before) ∙ c .before .enum-told2 .given .1))
+    ∙ saysStep-nothing (mapAt (origin b)) (kindAt b) (topAt b) (nextAt b) (gives (c .before .before .before) ∙ c .before .enum-told2 .given .1))
 
 pub step-spec : {M : Type 1} → statement M
 step-spec =

@@ -26,24 +26,37 @@ use Rattle.listings.proofs.given_key.cursor_key.Statement.{statement}
 use Rattle.listings.proofs.given_key.cursor_key.Tie as tie
 
 abbrev imageAt : tie.Start → Image
-imageAt start = imageIn (start .args .labels) (start .args .values) (start .args .words)
+imageAt s = imageIn (s .args .labels) (s .args .values) (s .args .words)
+
+-- ---- the states that the needs look back to: a wrong count of steps is refused here, by its type
+abbrev start : tie.After-is-image → tie.Start
+start c = c .before .before .before .before .before
+
+abbrev passed : tie.After-known-told → tie.Else1
+passed c = c .before .before .before
+
+abbrev opened : tie.Else3 → tie.After-known-told
+opened c = c .before .before .before
+
+abbrev fitting : tie.After-slice-known2 → tie.Else4
+fitting c = c .before .before .before .before
 
 is-image-requires : tie.Need-is-image-requires
 is-image-requires c κs = search needs
 
 returns : tie.Need-returns
 returns c =
-    let start = c .before .before .before .before .before .before in
-    let is = key-refused (imageAt start) (start .args .out .now) (start .args .cursor) (sym (c .before .is-image .ensures) ∙ not-true _ (c .if1 .taken)) in
+    let s = start (c .before) in
+    let is = key-refused (imageAt s) (s .args .out .now) (s .args .cursor) (sym (c .before .is-image .ensures) ∙ not-true _ (c .if1 .taken)) in
     (sym (is .says-is), sym (is .after-is))
 
 -- past the first test the image is a map's
-tested : (c : tie.Else1) → imageTest (imageAt (c .before .before .before .before .before .before)) ≡ true
+tested : (c : tie.Else1) → imageTest (imageAt (start (c .before))) ≡ true
 tested c = sym (c .before .is-image .ensures) ∙ not-false _ (c .if1 .left)
 
-whole : (c : tie.Else1) → MapImage (imageAt (c .before .before .before .before .before .before))
+whole : (c : tie.Else1) → MapImage (imageAt (start (c .before)))
 whole c =
-    tested-mapImage (imageAt (c .before .before .before .before .before .before))
+    tested-mapImage (imageAt (start (c .before)))
     (record { words-wide = λ w. c .before .before .before .shared-slice-known3 .given w .fits; values-wide = λ e. c .before .before .before .before .shared-slice-known2 .given e .fits })
     (tested c)
 
@@ -55,8 +68,9 @@ enum-told c = c .match .keys2
 
 returns-2 : tie.Need-returns-2
 returns-2 c =
-    let start = c .before .before .before .before .before .before .before .before in
-    let is = key-apart (imageAt start) _ _ (start .args .out .now) _ _ (c .enum-told .given .1) (key-finished (imageAt start) (start .args .out .now) (tested (c .before .before)) _) in
+    let p = c .before .before in
+    let s = start (p .before) in
+    let is = key-apart (imageAt s) _ _ (s .args .out .now) _ _ (c .enum-told .given .1) (key-finished (imageAt s) (s .args .out .now) (tested p) _) in
     (sym (is .says-is), sym (is .after-is))
 
 -- the numbers of an open cursor
@@ -70,15 +84,16 @@ abbrev lastAt : tie.After-known-told → ℕ
 lastAt c = c .before .cursor .given .0 .1 .1 .0
 
 apart : (c : tie.After-known-told) (says after : List ℕ)
-    → KeyIs (imageAt (c .before .before .before .before .before .before .before .before .before)) (Open (kindAt c) (topAt c) (lastAt c)) (c .before .before .before .before .before .before .before .before .before .args .out .now) says after
-    → KeyIs (imageAt (c .before .before .before .before .before .before .before .before .before)) (c .before .before .before .before .before .before .before .before .before .args .cursor) (c .before .before .before .before .before .before .before .before .before .args .out .now) says after
+    → let s = start (passed c .before) in
+    KeyIs (imageAt s) (Open (kindAt c) (topAt c) (lastAt c)) (s .args .out .now) says after → KeyIs (imageAt s) (s .args .cursor) (s .args .out .now) says after
 apart c says after is = key-apart _ _ _ _ says after (c .before .cursor .given .1) is
 
 returns-3 : tie.Need-returns-3
 returns-3 c =
-    let start = c .before .before .before .before .before .before .before .before .before .before in
     let b = c .before in
-    let is = apart b _ _ (key-fresh (imageAt start) (start .args .out .now) (tested (c .before .before .before .before)) (kindAt b) (topAt b) (lastAt b) (omega arith)) in
+    let p = passed b in
+    let s = start (p .before) in
+    let is = apart b _ _ (key-fresh (imageAt s) (s .args .out .now) (tested p) (kindAt b) (topAt b) (lastAt b) (omega arith)) in
     (sym (is .says-is), sym (is .after-is))
 
 mul-len : tie.Need-mul-len
@@ -92,20 +107,24 @@ stands-requires c κs = search needs
 
 returns-4 : tie.Need-returns-4
 returns-4 c =
-    let start = c .before .before .before .before .before .before .before .before .before .before .before .before in
     let b = c .before .before .before in
-    let is = apart b _ _ (key-strange (imageAt start) (start .args .out .now) (tested (c .before .before .before .before .before .before)) (kindAt b) (topAt b) (lastAt b) (sym (stands-path (imageAt start) (whole (c .before .before .before .before .before .before)) (kindAt b) (topAt b) (lastAt b)) ∙ sym (c .before .stands .ensures) ∙ not-true _ (c .if3 .taken))) in
+    let p = passed b in
+    let s = start (p .before) in
+    let is = apart b _ _ (key-strange (imageAt s) (s .args .out .now) (tested p) (kindAt b) (topAt b) (lastAt b) (sym (stands-path (imageAt s) (whole p) (kindAt b) (topAt b) (lastAt b)) ∙ sym (c .before .stands .ensures) ∙ not-true _ (c .if3 .taken))) in
     (sym (is .says-is), sym (is .after-is))
 
 -- past the last test of the numbers they belong, and the node is below the top
-belonging : (c : tie.Else3) → belongs (imageMap (imageAt (c .before .before .before .before .before .before .before .before .before .before .before .before))) (Open (kindAt (c .before .before .before)) (topAt (c .before .before .before)) (lastAt (c .before .before .before))) ≡ true
+belonging : (c : tie.Else3)
+    → let b = opened c in
+    belongs (imageMap (imageAt (start (passed b .before)))) (Open (kindAt b) (topAt b) (lastAt b)) ≡ true
 belonging c =
-    sym (stands-path _ (whole (c .before .before .before .before .before .before)) (kindAt (c .before .before .before)) (topAt (c .before .before .before)) (lastAt (c .before .before .before)))
-    ∙ sym (c .before .stands .ensures)
-    ∙ not-false _ (c .if3 .left)
+    let b = opened c in
+    sym (stands-path _ (whole (passed b)) (kindAt b) (topAt b) (lastAt b)) ∙ sym (c .before .stands .ensures) ∙ not-false _ (c .if3 .left)
 
-below : (c : tie.Else3) → UnderTop (imageMap (imageAt (c .before .before .before .before .before .before .before .before .before .before .before .before))) (topAt (c .before .before .before)) (lastAt (c .before .before .before))
-below c = belongs-under _ _ _ _ (whole (c .before .before .before .before .before .before) .catalogue .rising) (belonging c) (omega arith)
+below : (c : tie.Else3)
+    → let b = opened c in
+    UnderTop (imageMap (imageAt (start (passed b .before)))) (topAt b) (lastAt b)
+below c = belongs-under _ _ _ _ (whole (passed (opened c)) .catalogue .rising) (belonging c) (omega arith)
 
 cast-given-len : tie.Need-cast-given-len
 cast-given-len c = search needs
@@ -118,17 +137,20 @@ given-len-requires c κs = search needs
 
 -- the key is as long as was answered
 long : (c : tie.After-given-len)
-    → c .given-len .result ≡ length (givenKey (imageMap (imageAt (c .before .before .before .before .before .before .before .before .before .before .before .before .before))) (kindAt (c .before .before .before .before)) (topAt (c .before .before .before .before)) (lastAt (c .before .before .before .before)))
+    → let b = opened (c .before) in
+    c .given-len .result ≡ length (givenKey (imageMap (imageAt (start (passed b .before)))) (kindAt b) (topAt b) (lastAt b))
 long c =
-    c .given-len .ensures
-    ∙ givenLen-path _ (whole (c .before .before .before .before .before .before .before)) (kindAt (c .before .before .before .before)) (topAt (c .before .before .before .before)) (lastAt (c .before .before .before .before)) (below (c .before))
+    let b = opened (c .before) in
+    c .given-len .ensures ∙ givenLen-path _ (whole (passed b)) (kindAt b) (topAt b) (lastAt b) (below (c .before))
 
 returns-5 : tie.Need-returns-5
 returns-5 c =
-    let start = c .before .before .before .before .before .before .before .before .before .before .before .before .before .before in
-    let b = c .before .before .before .before .before in
+    let e = c .before .before in
+    let b = opened e in
+    let p = passed b in
+    let s = start (p .before) in
     let size = long (c .before) in
-    let is = apart b _ _ (key-short (imageAt start) (start .args .out .now) (tested (c .before .before .before .before .before .before .before .before)) (kindAt b) (topAt b) (lastAt b) (belonging (c .before .before)) (omega arith) (omega arith)) in
+    let is = apart b _ _ (key-short (imageAt s) (s .args .out .now) (tested p) (kindAt b) (topAt b) (lastAt b) (belonging e) (omega arith) (omega arith)) in
     (sym (is .says-is), sym (is .after-is))
 
 cast-spell : tie.Need-cast-spell
@@ -142,18 +164,22 @@ same-length c = search needs
 
 returns-6 : tie.Need-returns-6
 returns-6 c =
-    let start = c .before .before .before .before .before .before .before .before .before .before .before .before .before .before .before .before .before .before in
-    let b = c .before .before .before .before .before .before .before .before .before in
-    let i = imageAt start in
-    let map = whole (c .before .before .before .before .before .before .before .before .before .before .before .before) in
-    let under = below (c .before .before .before .before .before .before) in
-    let size = long (c .before .before .before .before .before) in
+    let f = fitting c in
+    let g = f .before in
+    let e = g .before in
+    let b = opened e in
+    let p = passed b in
+    let s = start (p .before) in
+    let i = imageAt s in
+    let map = whole p in
+    let under = below e in
+    let size = long g in
     let within = givenKey-within (imageMap i) (topAt b) (lastAt b) under (kindAt b) in
-    let is = apart b _ _ (key-written (imageAt start) (start .args .out .now) (tested (c .before .before .before .before .before .before .before .before .before .before .before .before)) (kindAt b) (topAt b) (lastAt b) (belonging (c .before .before .before .before .before .before)) (omega arith) (omega arith)) in (
+    let is = apart b _ _ (key-written i (s .args .out .now) (tested p) (kindAt b) (topAt b) (lastAt b) (belonging e) (omega (arith, e .before .before .if2 .left)) (omega (arith, f .if4 .left, size))) in (
       ap (λ n. 0 ∷ n ∷ []) size ∙ sym (is .says-is),
       c .before .before .spell .ensures
-          ∙ spell-path i map (lastAt b) (under .inside) _ (omega arith) (start .args .out .now) (omega arith)
-          ∙ givenKey-spelled (imageMap i) (topAt b) (lastAt b) under (kindAt b) _ (start .args .out .now) size
+          ∙ spell-path i map (lastAt b) (under .inside) _ (omega (arith, size, within)) (s .args .out .now) (omega (arith, f .if4 .left))
+          ∙ givenKey-spelled (imageMap i) (topAt b) (lastAt b) under (kindAt b) _ (s .args .out .now) size
           ∙ sym (is .after-is),
     )
 

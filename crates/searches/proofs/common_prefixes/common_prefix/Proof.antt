@@ -13,23 +13,27 @@ use Rattle.searches.proofs.common_prefixes.common_prefix.Statement.{sta
 use Rattle.searches.proofs.common_prefixes.common_prefix.Tie as tie
 
 abbrev imageAt : tie.Start → Image
-imageAt start = imageIn (start .args .labels) (start .args .values) (start .args .words)
+imageAt s = imageIn (s .args .labels) (s .args .values) (s .args .words)
+
+-- ---- the states that the needs look back to: a wrong count of steps is refused here, by its type
+abbrev start : tie.After-is-image → tie.Start
+start c = c .before .before .before .before .before
 
 is-image-requires : tie.Need-is-image-requires
 is-image-requires c κs = search needs
 
 returns : tie.Need-returns
 returns c =
-    let start = c .before .before .before .before .before .before in
-    sym (commonSays-refused (imageAt start) (start .args .query .now) (start .args .seen) (sym (c .before .is-image .ensures) ∙ not-true _ (c .if1 .taken)))
+    let s = start (c .before) in
+    sym (commonSays-refused (imageAt s) (s .args .query .now) (s .args .seen) (sym (c .before .is-image .ensures) ∙ not-true _ (c .if1 .taken)))
 
 -- past the test the image is a map's
-tested : (c : tie.Else1) → imageTest (imageAt (c .before .before .before .before .before .before)) ≡ true
+tested : (c : tie.Else1) → imageTest (imageAt (start (c .before))) ≡ true
 tested c = sym (c .before .is-image .ensures) ∙ not-false _ (c .if1 .left)
 
-whole : (c : tie.Else1) → MapImage (imageAt (c .before .before .before .before .before .before))
+whole : (c : tie.Else1) → MapImage (imageAt (start (c .before)))
 whole c =
-    tested-mapImage (imageAt (c .before .before .before .before .before .before))
+    tested-mapImage (imageAt (start (c .before)))
     (record { words-wide = λ w. c .before .before .before .shared-slice-known3 .given w .fits; values-wide = λ e. c .before .before .before .before .shared-slice-known2 .given e .fits })
     (tested c)
 
@@ -38,10 +42,10 @@ shortest-requires c κs = search needs
 
 returns-2 : tie.Need-returns-2
 returns-2 c =
-    let start = c .before .before .before .before .before .before .before in
-    let i = imageAt start in
-    let q = start .args .query .now in
-    ap saidCommon (c .shortest .ensures) ∙ said-rule i (whole (c .before)) q (start .args .seen) ∙ sym (commonSays-accepted i q (start .args .seen) (tested (c .before)))
+    let s = start (c .before .before) in
+    let i = imageAt s in
+    let q = s .args .query .now in
+    ap saidCommon (c .shortest .ensures) ∙ said-rule i (whole (c .before)) q (s .args .seen) ∙ sym (commonSays-accepted i q (s .args .seen) (tested (c .before)))
 
 pub common-prefix-spec : {M : Type 1} → statement M
 common-prefix-spec = tie.close (tie.spec is-image-requires returns shortest-requires returns-2)

@@ -13,7 +13,11 @@ use Rattle.searches.proofs.common_prefixes.common_prefix_part.Statement
 use Rattle.searches.proofs.common_prefixes.common_prefix_part.Tie as tie
 
 abbrev imageAt : tie.Start → Image
-imageAt start = imageIn (start .args .labels) (start .args .values) (start .args .words)
+imageAt s = imageIn (s .args .labels) (s .args .values) (s .args .words)
+
+-- ---- the states that the needs look back to: a wrong count of steps is refused here, by its type
+abbrev start : tie.After-part-length → tie.Start
+start c = c .before .before .before .before .before .before
 
 common-prefix-requires : tie.Need-common-prefix-requires
 common-prefix-requires c κs = search needs
@@ -23,17 +27,17 @@ part-length-requires c κs = search needs
 
 -- the length is within the query, and the part is the definition's
 part : (c : tie.After-part-length)
-    → (c .part-length .result ≤ length (c .before .before .before .before .before .before .args .query .now))
-    × (take (c .part-length .result) (c .before .before .before .before .before .before .args .query .now) ≡ commonPart (imageAt (c .before .before .before .before .before .before)) (c .before .before .before .before .before .before .args .query .now) (c .before .before .before .before .before .before .args .seen))
+    → let a = start c .args in
+    (c .part-length .result ≤ length (a .query .now)) × (take (c .part-length .result) (a .query .now) ≡ commonPart (imageAt (start c)) (a .query .now) (a .seen))
 part c =
-    let start = c .before .before .before .before .before .before in
-    let q = start .args .query .now in
-    let (within, same) = part-is (imageAt start) q (start .args .seen) (c .before .common-prefix .result) (c .before .common-prefix .ensures) in
+    let s = start c in
+    let q = s .args .query .now in
+    let (within, same) = part-is (imageAt s) q (s .args .seen) (c .before .common-prefix .result) (c .before .common-prefix .ensures) in
     (omega (arith, c .part-length .ensures, within), ap (λ (n : ℕ). take n q) (c .part-length .ensures) ∙ same)
 
 slice-aggregate-result : tie.Need-slice-aggregate-result
 slice-aggregate-result c =
-    sym (length-take-le (c .before .part-length .result) (c .before .before .before .before .before .before .before .args .query .now) (part (c .before) .0))
+    sym (length-take-le (c .before .part-length .result) (start (c .before) .args .query .now) (part (c .before) .0))
 
 returns : tie.Need-returns
 returns c = (part (c .before) .1, refl)

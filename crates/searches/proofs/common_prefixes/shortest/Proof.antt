@@ -31,7 +31,17 @@ abbrev μ-loop : tie.MeasureT-loop
 μ-loop labels values words query seen len s₀ depth₀ s depth = length query - depth
 
 abbrev imageAt : tie.Start Inv-loop μ-loop → Image
-imageAt start = imageIn (start .args .labels) (start .args .values) (start .args .words)
+imageAt s = imageIn (s .args .labels) (s .args .values) (s .args .words)
+
+-- ---- the states that the needs look back to: a wrong count of steps is refused here, by its type
+abbrev start : tie.After-stand-at Inv-loop μ-loop → tie.Start Inv-loop μ-loop
+start c = c .before .before .before .before .before
+
+abbrev turn : tie.After-down Inv-loop μ-loop → tie.At-loop Inv-loop μ-loop
+turn c = c .before .before .before
+
+abbrev went : tie.After-known-told Inv-loop μ-loop → tie.After-down Inv-loop μ-loop
+went c = c .before .before .before
 
 mul-len : tie.Need-mul-len Inv-loop μ-loop
 mul-len c = search needs
@@ -44,11 +54,10 @@ stand-at-requires c κs = search needs
 
 loop-holds : tie.Need-loop-holds Inv-loop μ-loop
 loop-holds c =
-    let start = c .before .before .before .before .before in
-    let a = start .args in
+    let a = start c .args in
     let told = c .stand-at .ensures in
     let one : c .stand-at .result .node ≡ 1 = ap (λ (s : Stand). s .node) told in
-    (omega arith, told ∙ ap (standAt (bit (a .words .now)) (bitsFor (length (a .labels .now)))) (sym one), ap (λ k. shortestFrom (imageAt start) (a .seen) (a .query .now) 0 (some k)) (sym one))
+    (omega arith, told ∙ ap (standAt (bit (a .words .now)) (bitsFor (length (a .labels .now)))) (sym one), ap (λ k. shortestFrom (imageAt (start c)) (a .seen) (a .query .now) 0 (some k)) (sym one))
 
 shared-slice-read-down : tie.Need-shared-slice-read-down Inv-loop μ-loop
 shared-slice-read-down c = search needs
@@ -58,12 +67,13 @@ down-requires c κs = search needs
 
 -- what a step answers, by the rule
 step : (c : tie.After-down Inv-loop μ-loop) (t : Reached) → c .down .result ≡ t
-    → reachedAt (bit (c .before .before .before .before .before .before .before .before .before .args .words .now)) (bitsFor (length (c .before .before .before .before .before .before .before .before .before .args .labels .now)))
-    (childBy (c .before .before .before .before .before .before .before .before .before .args .labels .now) (bit (c .before .before .before .before .before .before .before .before .before .args .words .now)) (bitsFor (length (c .before .before .before .before .before .before .before .before .before .args .labels .now))) (c .before .before .before .loop .s .node) (getD (c .before .before .before .before .before .before .before .before .before .args .query .now) (c .before .before .before .loop .depth) 0))
-    ≡ t
+    → let a = start (turn c .before) .args in
+    let b = bit (a .words .now) in
+    let len = bitsFor (length (a .labels .now)) in
+    reachedAt b len (childBy (a .labels .now) b len (turn c .loop .s .node) (getD (a .query .now) (turn c .loop .depth) 0)) ≡ t
 step c t e =
-    let a = c .before .before .before .before .before .before .before .before .before .args in
-    let l = c .before .before .before .loop in
+    let a = start (turn c .before) .args in
+    let l = turn c .loop in
     let b = bit (a .words .now) in
     let len = bitsFor (length (a .labels .now)) in
     let label = getD (a .query .now) (l .depth) 0 in
@@ -80,11 +90,12 @@ enum-told c = c .match .keys2
 
 returns : tie.Need-returns Inv-loop μ-loop
 returns c =
-    let start = c .before .before .before .before .before .before .before .before .before .before .before in
-    let a = start .args in
-    let l = c .before .before .before .before .before .loop in
+    let here = turn (c .before .before) in
+    let l = here .loop in
+    let from = start (here .before) in
+    let a = from .args in
     let lost = reachedAt-lost (bit (a .words .now)) (bitsFor (length (a .labels .now))) _ (step (c .before .before) _ (c .enum-told .given .1)) in
-    sym (ap matchOf (l .inv .2 ∙ shortest-lost (imageAt start) (a .seen) (a .query .now) (l .depth) (some (l .s .node)) (omega arith) lost))
+    sym (ap matchOf (l .inv .2 ∙ shortest-lost (imageAt from) (a .seen) (a .query .now) (l .depth) (some (l .s .node)) (omega arith) lost))
 
 add-depth : tie.Need-add-depth Inv-loop μ-loop
 add-depth c = omega arith
@@ -97,32 +108,40 @@ enum-known-value c = c .match2 .keys1
 
 -- where the step led, and what is found from there on
 there : (c : tie.After-known-told Inv-loop μ-loop)
-    → ReachedTold (bit (c .before .before .before .before .before .before .before .before .before .before .before .before .args .words .now)) (bitsFor (length (c .before .before .before .before .before .before .before .before .before .before .before .before .args .labels .now)))
-    (childBy (c .before .before .before .before .before .before .before .before .before .before .before .before .args .labels .now) (bit (c .before .before .before .before .before .before .before .before .before .before .before .before .args .words .now)) (bitsFor (length (c .before .before .before .before .before .before .before .before .before .before .before .before .args .labels .now))) (c .before .before .before .before .before .before .loop .s .node) (getD (c .before .before .before .before .before .before .before .before .before .before .before .before .args .query .now) (c .before .before .before .before .before .before .loop .depth) 0))
-    (c .before .t .given .0 .0)
+    → let here = turn (went c) in
+    let a = start (here .before) .args in
+    let b = bit (a .words .now) in
+    let len = bitsFor (length (a .labels .now)) in
+    ReachedTold b len (childBy (a .labels .now) b len (here .loop .s .node) (getD (a .query .now) (here .loop .depth) 0)) (c .before .t .given .0 .0)
 there c =
-    let a = c .before .before .before .before .before .before .before .before .before .before .before .before .args in
-    reachedAt-to (bit (a .words .now)) (bitsFor (length (a .labels .now))) _ _ (step (c .before .before .before) _ (c .before .t .given .1))
+    let a = start (turn (went c) .before) .args in
+    reachedAt-to (bit (a .words .now)) (bitsFor (length (a .labels .now))) _ _ (step (went c) _ (c .before .t .given .1))
 
 onward : (c : tie.After-known-told Inv-loop μ-loop)
-    → shortestFrom (imageAt (c .before .before .before .before .before .before .before .before .before .before .before .before)) (c .before .before .before .before .before .before .before .before .before .before .before .before .args .seen) (c .before .before .before .before .before .before .before .before .before .before .before .before .args .query .now) 0 (some 1)
-    ≡ orFurther (c .before .before .before .before .before .before .loop .depth + 1)
-    (unlessSeen (c .before .before .before .before .before .before .before .before .before .before .before .before .args .seen) (c .before .before .before .before .before .before .loop .depth + 1) (valueOfNode (c .before .before .before .before .before .before .before .before .before .before .before .before .args .labels .now) (c .before .before .before .before .before .before .before .before .before .before .before .before .args .values .now) (c .before .t .given .0 .0 .node)))
-    (shortestFrom (imageAt (c .before .before .before .before .before .before .before .before .before .before .before .before)) (c .before .before .before .before .before .before .before .before .before .before .before .before .args .seen) (drop (c .before .before .before .before .before .before .loop .depth + 1) (c .before .before .before .before .before .before .before .before .before .before .before .before .args .query .now)) (c .before .before .before .before .before .before .loop .depth + 1) (some (c .before .t .given .0 .0 .node)))
+    → let l = turn (went c) .loop in
+    let from = start (turn (went c) .before) in
+    let a = from .args in
+    let node = c .before .t .given .0 .0 .node in
+    shortestFrom (imageAt from) (a .seen) (a .query .now) 0 (some 1)
+    ≡ orFurther (l .depth + 1) (unlessSeen (a .seen) (l .depth + 1) (valueOfNode (a .labels .now) (a .values .now) node))
+    (shortestFrom (imageAt from) (a .seen) (drop (l .depth + 1) (a .query .now)) (l .depth + 1) (some node))
 onward c =
-    let start = c .before .before .before .before .before .before .before .before .before .before .before .before in
-    let a = start .args in
-    let l = c .before .before .before .before .before .before .loop in
-    l .inv .2 ∙ shortest-next (imageAt start) (a .seen) (a .query .now) (l .depth) (some (l .s .node)) (some (c .before .t .given .0 .0 .node)) (omega arith) (there c .node)
+    let here = turn (went c) in
+    let l = here .loop in
+    let from = start (here .before) in
+    let a = from .args in
+    l .inv .2 ∙ shortest-next (imageAt from) (a .seen) (a .query .now) (l .depth) (some (l .s .node)) (some (c .before .t .given .0 .0 .node)) (omega arith) (there c .node)
 
 returns-2 : tie.Need-returns-2 Inv-loop μ-loop
 returns-2 c =
     let k = c .before .before .before .before in
-    let a = k .before .before .before .before .before .before .before .before .before .before .before .before .args in
-    let l = k .before .before .before .before .before .before .loop in
+    let here = turn (went k) in
+    let l = here .loop in
+    let from = start (here .before) in
+    let a = from .args in
     let node = k .before .t .given .0 .0 .node in
     let held = heldOf-value (unlessSeen (a .seen) (l .depth + 1) (valueOfNode (a .labels .now) (a .values .now) node)) _ (sym (c .before .before .before .unseen-value .ensures) ∙ c .before .value .given .1) in
-    let further = shortestFrom (imageAt (k .before .before .before .before .before .before .before .before .before .before .before .before)) (a .seen) (drop (l .depth + 1) (a .query .now)) (l .depth + 1) (some node) in
+    let further = shortestFrom (imageAt from) (a .seen) (drop (l .depth + 1) (a .query .now)) (l .depth + 1) (some node) in
     sym (ap matchOf (onward k ∙ ap (λ (o : Option ℕ). orFurther (l .depth + 1) o further) held))
 
 enum-told-2 : tie.Need-enum-told-2 Inv-loop μ-loop
@@ -134,25 +153,27 @@ loop-less c = omega arith
 loop-again : tie.Need-loop-again Inv-loop μ-loop
 loop-again c =
     let k = c .before .before .before in
-    let a = k .before .before .before .before .before .before .before .before .before .before .before .before .args in
-    let l = k .before .before .before .before .before .before .loop in
+    let here = turn (went k) in
+    let l = here .loop in
+    let from = start (here .before) in
+    let a = from .args in
     let node = k .before .t .given .0 .0 .node in
     let held = heldOf-none (unlessSeen (a .seen) (l .depth + 1) (valueOfNode (a .labels .now) (a .values .now) node)) (sym (c .before .before .unseen-value .ensures) ∙ c .enum-told2 .given .1) in
-    let further = shortestFrom (imageAt (k .before .before .before .before .before .before .before .before .before .before .before .before)) (a .seen) (drop (l .depth + 1) (a .query .now)) (l .depth + 1) (some node) in
+    let further = shortestFrom (imageAt from) (a .seen) (drop (l .depth + 1) (a .query .now)) (l .depth + 1) (some node) in
     (omega arith, there k .knows, onward k ∙ ap (λ (o : Option ℕ). orFurther (l .depth + 1) o further) held)
 
 returns-3 : tie.Need-returns-3 Inv-loop μ-loop
 returns-3 c =
-    let start = c .before .before .before .before .before .before .before in
-    let a = start .args in
     let l = c .before .loop in
+    let from = start (c .before .before) in
+    let a = from .args in
     let end : l .depth ≡ length (a .query .now) = omega arith in
     let rest : drop (l .depth) (a .query .now) ≡ [] = ap (λ n. drop n (a .query .now)) end ∙ drop-length (a .query .now) in
     sym
     (ap matchOf
     (l .inv .2
-    ∙ ap (λ r. shortestFrom (imageAt start) (a .seen) r (l .depth) (some (l .s .node))) rest
-    ∙ shortest-end (imageAt start) (a .seen) (l .depth) (some (l .s .node))))
+    ∙ ap (λ r. shortestFrom (imageAt from) (a .seen) r (l .depth) (some (l .s .node))) rest
+    ∙ shortest-end (imageAt from) (a .seen) (l .depth) (some (l .s .node))))
 
 pub shortest-spec : {M : Type 1} → statement M
 shortest-spec =

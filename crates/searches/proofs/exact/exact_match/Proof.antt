@@ -14,23 +14,27 @@ use Rattle.searches.proofs.exact.exact_match.Statement.{statement}
 use Rattle.searches.proofs.exact.exact_match.Tie as tie
 
 abbrev imageAt : tie.Start → Image
-imageAt start = imageIn (start .args .labels) (start .args .values) (start .args .words)
+imageAt s = imageIn (s .args .labels) (s .args .values) (s .args .words)
+
+-- ---- the states that the needs look back to: a wrong count of steps is refused here, by its type
+abbrev start : tie.After-is-image → tie.Start
+start c = c .before .before .before .before .before
 
 is-image-requires : tie.Need-is-image-requires
 is-image-requires c κs = search needs
 
 returns : tie.Need-returns
 returns c =
-    let start = c .before .before .before .before .before .before in
-    sym (exactSays-refused (imageAt start) (start .args .query .now) (sym (c .before .is-image .ensures) ∙ not-true _ (c .if1 .taken)))
+    let s = start (c .before) in
+    sym (exactSays-refused (imageAt s) (s .args .query .now) (sym (c .before .is-image .ensures) ∙ not-true _ (c .if1 .taken)))
 
 -- past the test the image is a map's
-tested : (c : tie.Else1) → imageTest (imageAt (c .before .before .before .before .before .before)) ≡ true
+tested : (c : tie.Else1) → imageTest (imageAt (start (c .before))) ≡ true
 tested c = sym (c .before .is-image .ensures) ∙ not-false _ (c .if1 .left)
 
-whole : (c : tie.Else1) → MapImage (imageAt (c .before .before .before .before .before .before))
+whole : (c : tie.Else1) → MapImage (imageAt (start (c .before)))
 whole c =
-    tested-mapImage (imageAt (c .before .before .before .before .before .before))
+    tested-mapImage (imageAt (start (c .before)))
     (record { words-wide = λ w. c .before .before .before .shared-slice-known3 .given w .fits; values-wide = λ e. c .before .before .before .before .shared-slice-known2 .given e .fits })
     (tested c)
 
@@ -45,19 +49,21 @@ enum-told c = c .match .keys2
 
 returns-2 : tie.Need-returns-2
 returns-2 c =
-    let start = c .before .before .before .before .before .before .before .before .before in
-    let i = imageAt start in
-    let q = start .args .query .now in
+    let p = c .before .before .before in
+    let s = start (p .before) in
+    let i = imageAt s in
+    let q = s .args .query .now in
     let absent = keyed-missed i q (sym (c .before .before .find .ensures) ∙ c .enum-told .given .1) in
-    sym (exactSays-accepted i q (tested (c .before .before .before)) ∙ ap saysValue (sym (value-rule i (whole (c .before .before .before)) q) ∙ absent))
+    sym (exactSays-accepted i q (tested p) ∙ ap saysValue (sym (value-rule i (whole p) q) ∙ absent))
 
 returns-3 : tie.Need-returns-3
 returns-3 c =
-    let start = c .before .before .before .before .before .before .before .before .before .before in
-    let i = imageAt start in
-    let q = start .args .query .now in
+    let p = c .before .before .before .before in
+    let s = start (p .before) in
+    let i = imageAt s in
+    let q = s .args .query .now in
     let held = keyed-found i q _ _ (sym (c .before .before .before .find .ensures) ∙ c .before .value .given .1) .value in
-    sym (exactSays-accepted i q (tested (c .before .before .before .before)) ∙ ap saysValue (sym (value-rule i (whole (c .before .before .before .before)) q) ∙ held))
+    sym (exactSays-accepted i q (tested p) ∙ ap saysValue (sym (value-rule i (whole p) q) ∙ held))
 
 pub exact-match-spec : {M : Type 1} → statement M
 exact-match-spec =

@@ -10,7 +10,14 @@ use Rattle.searches.proofs.exact.find.Statement.{statement}
 use Rattle.searches.proofs.exact.find.Tie as tie
 
 abbrev imageAt : tie.Start → Image
-imageAt start = imageIn (start .args .labels) (start .args .values) (start .args .words)
+imageAt s = imageIn (s .args .labels) (s .args .values) (s .args .words)
+
+-- ---- the states that the needs look back to: a wrong count of steps is refused here, by its type
+abbrev start : tie.After-end-of → tie.Start
+start c = c .before .before .before .before .before
+
+abbrev ended : tie.After-value-at → tie.After-end-of
+ended c = c .before .before .before .before
 
 mul-len : tie.Need-mul-len
 mul-len c = search needs
@@ -29,8 +36,8 @@ enum-told c = c .match .keys2
 
 returns : tie.Need-returns
 returns c =
-    let start = c .before .before .before .before .before .before .before in
-    sym (keyedIn-lost (imageAt start) (start .args .query .now) (childOf-absent (nodeBy (imageAt start) (start .args .query .now)) (sym (c .before .before .end-of .ensures) ∙ c .enum-told .given .1)))
+    let s = start (c .before .before) in
+    sym (keyedIn-lost (imageAt s) (s .args .query .now) (childOf-absent (nodeBy (imageAt s) (s .args .query .now)) (sym (c .before .before .end-of .ensures) ∙ c .enum-told .given .1)))
 
 value-at-requires : tie.Need-value-at-requires
 value-at-requires c κs = search needs
@@ -43,21 +50,25 @@ enum-told-2 c = c .match2 .keys2
 
 returns-2 : tie.Need-returns-2
 returns-2 c =
-    let start = c .before .before .before .before .before .before .before .before .before .before .before .before in
-    let a = start .args in
-    let at = c .before .before .before .before .before .node .given in
-    let end = childOf-node (nodeBy (imageAt start) (a .query .now)) _ (sym (c .before .before .before .before .before .before .before .end-of .ensures) ∙ at .1) in
-    let held = heldOf-value (valueOfNode (a .labels .now) (a .values .now) (at .0 .0)) _ (sym (c .before .before .before .value-at .ensures) ∙ c .before .value .given .1) in
-    sym (keyedIn-held (imageAt start) (a .query .now) _ end _ held)
+    let v = c .before .before .before in
+    let e = ended v in
+    let s = start e in
+    let a = s .args in
+    let at = v .before .before .node .given in
+    let end = childOf-node (nodeBy (imageAt s) (a .query .now)) _ (sym (e .end-of .ensures) ∙ at .1) in
+    let held = heldOf-value (valueOfNode (a .labels .now) (a .values .now) (at .0 .0)) _ (sym (v .value-at .ensures) ∙ c .before .value .given .1) in
+    sym (keyedIn-held (imageAt s) (a .query .now) _ end _ held)
 
 returns-3 : tie.Need-returns-3
 returns-3 c =
-    let start = c .before .before .before .before .before .before .before .before .before .before .before in
-    let a = start .args in
-    let at = c .before .before .before .before .node .given in
-    let end = childOf-node (nodeBy (imageAt start) (a .query .now)) _ (sym (c .before .before .before .before .before .before .end-of .ensures) ∙ at .1) in
-    let held = heldOf-none (valueOfNode (a .labels .now) (a .values .now) (at .0 .0)) (sym (c .before .before .value-at .ensures) ∙ c .enum-told2 .given .1) in
-    sym (keyedIn-plain (imageAt start) (a .query .now) _ end held)
+    let v = c .before .before in
+    let e = ended v in
+    let s = start e in
+    let a = s .args in
+    let at = v .before .before .node .given in
+    let end = childOf-node (nodeBy (imageAt s) (a .query .now)) _ (sym (e .end-of .ensures) ∙ at .1) in
+    let held = heldOf-none (valueOfNode (a .labels .now) (a .values .now) (at .0 .0)) (sym (v .value-at .ensures) ∙ c .enum-told2 .given .1) in
+    sym (keyedIn-plain (imageAt s) (a .query .now) _ end held)
 
 pub find-spec : {M : Type 1} → statement M
 find-spec =

@@ -13,23 +13,27 @@ use Rattle.searches.proofs.exact.is_prefix.Statement.{statement}
 use Rattle.searches.proofs.exact.is_prefix.Tie as tie
 
 abbrev imageAt : tie.Start → Image
-imageAt start = imageIn (start .args .labels) (start .args .values) (start .args .words)
+imageAt s = imageIn (s .args .labels) (s .args .values) (s .args .words)
+
+-- ---- the states that the needs look back to: a wrong count of steps is refused here, by its type
+abbrev start : tie.After-is-image → tie.Start
+start c = c .before .before .before .before .before
 
 is-image-requires : tie.Need-is-image-requires
 is-image-requires c κs = search needs
 
 returns : tie.Need-returns
 returns c =
-    let start = c .before .before .before .before .before .before in
-    sym (isPrefixSays-refused (imageAt start) (start .args .query .now) (sym (c .before .is-image .ensures) ∙ not-true _ (c .if1 .taken)))
+    let s = start (c .before) in
+    sym (isPrefixSays-refused (imageAt s) (s .args .query .now) (sym (c .before .is-image .ensures) ∙ not-true _ (c .if1 .taken)))
 
 -- past the test the image is a map's
-tested : (c : tie.Else1) → imageTest (imageAt (c .before .before .before .before .before .before)) ≡ true
+tested : (c : tie.Else1) → imageTest (imageAt (start (c .before))) ≡ true
 tested c = sym (c .before .is-image .ensures) ∙ not-false _ (c .if1 .left)
 
-whole : (c : tie.Else1) → MapImage (imageAt (c .before .before .before .before .before .before))
+whole : (c : tie.Else1) → MapImage (imageAt (start (c .before)))
 whole c =
-    tested-mapImage (imageAt (c .before .before .before .before .before .before))
+    tested-mapImage (imageAt (start (c .before)))
     (record { words-wide = λ w. c .before .before .before .shared-slice-known3 .given w .fits; values-wide = λ e. c .before .before .before .before .shared-slice-known2 .given e .fits })
     (tested c)
 
@@ -38,13 +42,15 @@ goes-on-requires c κs = search needs
 
 returns-2 : tie.Need-returns-2
 returns-2 c =
-    let start = c .before .before .before .before .before .before .before .before in
-    sym (isPrefixSays-accepted (imageAt start) (start .args .query .now) (tested (c .before .before)) ∙ ap saysFlag (sym (goes-rule (imageAt start) (whole (c .before .before)) (start .args .query .now)) ∙ sym (c .before .goes-on .ensures) ∙ c .if2 .taken))
+    let p = c .before .before in
+    let s = start (p .before) in
+    sym (isPrefixSays-accepted (imageAt s) (s .args .query .now) (tested p) ∙ ap saysFlag (sym (goes-rule (imageAt s) (whole p) (s .args .query .now)) ∙ sym (c .before .goes-on .ensures) ∙ c .if2 .taken))
 
 returns-3 : tie.Need-returns-3
 returns-3 c =
-    let start = c .before .before .before .before .before .before .before .before in
-    sym (isPrefixSays-accepted (imageAt start) (start .args .query .now) (tested (c .before .before)) ∙ ap saysFlag (sym (goes-rule (imageAt start) (whole (c .before .before)) (start .args .query .now)) ∙ sym (c .before .goes-on .ensures) ∙ c .if2 .left))
+    let p = c .before .before in
+    let s = start (p .before) in
+    sym (isPrefixSays-accepted (imageAt s) (s .args .query .now) (tested p) ∙ ap saysFlag (sym (goes-rule (imageAt s) (whole p) (s .args .query .now)) ∙ sym (c .before .goes-on .ensures) ∙ c .if2 .left))
 
 pub is-prefix-spec : {M : Type 1} → statement M
 is-prefix-spec =

@@ -17,7 +17,14 @@ use Rattle.searches.proofs.exact.set_value.Statement.{statement}
 use Rattle.searches.proofs.exact.set_value.Tie as tie
 
 abbrev imageAt : tie.Start → Image
-imageAt start = imageIn (start .args .labels) (start .args .values) (start .args .words)
+imageAt s = imageIn (s .args .labels) (s .args .values) (s .args .words)
+
+-- ---- the states that the needs look back to: a wrong count of steps is refused here, by its type
+abbrev start : tie.After-is-image → tie.Start
+start c = c .before .before .before .before .before .before
+
+abbrev passed : tie.After-known-told → tie.Else1
+passed c = c .before .before .before .before .before
 
 is-image-requires : tie.Need-is-image-requires
 is-image-requires c κs = search needs
@@ -27,20 +34,21 @@ same-length c = search needs
 
 returns : tie.Need-returns
 returns c =
-    let start = c .before .before .before .before .before .before .before in
-    let i = imageAt start in
-    let q = start .args .query .now in
+    let s = start (c .before) in
+    let i = imageAt s in
+    let q = s .args .query .now in
     let refused = sym (c .before .is-image .ensures) ∙ not-true _ (c .if1 .taken) in
-    (sym (exactSays-refused i q refused), sym (setValues-refused i q refused (start .args .value)))
+    (sym (exactSays-refused i q refused), sym (setValues-refused i q refused (s .args .value)))
 
 -- past the test the image is a map's
-tested : (c : tie.Else1) → imageTest (imageAt (c .before .before .before .before .before .before .before)) ≡ true
+tested : (c : tie.Else1) → imageTest (imageAt (start (c .before))) ≡ true
 tested c = sym (c .before .is-image .ensures) ∙ not-false _ (c .if1 .left)
 
-whole : (c : tie.Else1) → MapImage (imageAt (c .before .before .before .before .before .before .before))
+whole : (c : tie.Else1) → MapImage (imageAt (start (c .before)))
 whole c =
-    tested-mapImage (imageAt (c .before .before .before .before .before .before .before))
-    (record { words-wide = λ w. c .before .before .before .before .shared-slice-known2 .given w .fits; values-wide = λ e. c .before .before .before .before .before .slice-known .given e .fits })
+    let asked = c .before in
+    tested-mapImage (imageAt (start asked))
+    (record { words-wide = λ w. asked .before .before .before .shared-slice-known2 .given w .fits; values-wide = λ e. asked .before .before .before .before .slice-known .given e .fits })
     (tested c)
 
 find-requires : tie.Need-find-requires
@@ -57,16 +65,18 @@ same-length-2 c = search needs
 
 returns-2 : tie.Need-returns-2
 returns-2 c =
-    let start = c .before .before .before .before .before .before .before .before .before .before .before in
-    let i = imageAt start in
-    let q = start .args .query .now in
-    let accepted = tested (c .before .before .before .before) in
-    let absent = sym (value-rule i (whole (c .before .before .before .before)) q) ∙ keyed-missed i q (sym (c .before .before .find .ensures) ∙ c .enum-told .given .1) in
-    (sym (exactSays-accepted i q accepted ∙ ap saysValue absent), sym (setValues-absent i q accepted (start .args .value) absent))
+    let p = c .before .before .before .before in
+    let s = start (p .before) in
+    let i = imageAt s in
+    let q = s .args .query .now in
+    let accepted = tested p in
+    let absent = sym (value-rule i (whole p) q) ∙ keyed-missed i q (sym (c .before .before .find .ensures) ∙ c .enum-told .given .1) in
+    (sym (exactSays-accepted i q accepted ∙ ap saysValue absent), sym (setValues-absent i q accepted (s .args .value) absent))
 
 -- the key that was found
 found : (c : tie.After-known-told)
-    → Found (imageAt (c .before .before .before .before .before .before .before .before .before .before .before .before)) (c .before .before .before .before .before .before .before .before .before .before .before .before .args .query .now) (c .before .node .given .0 .0) (c .before .node .given .0 .1 .0)
+    → let s = start (passed c .before) in
+    Found (imageAt s) (s .args .query .now) (c .before .node .given .0 .0) (c .before .node .given .0 .1 .0)
 found c = keyed-found _ _ _ _ (sym (c .before .before .before .find .ensures) ∙ c .before .node .given .1)
 
 sub-values : tie.Need-sub-values
@@ -83,14 +93,15 @@ same-length-3 c = search needs
 
 returns-3 : tie.Need-returns-3
 returns-3 c =
-    let start = c .before .before .before .before .before .before .before .before .before .before .before .before in
-    let i = imageAt start in
-    let q = start .args .query .now in
-    let v = start .args .value in
-    let accepted = tested (c .before .before .before .before .before) in
-    let (number, held) = found-key i (whole (c .before .before .before .before .before)) q _ _ (found c) in (
+    let p = passed c in
+    let s = start (p .before) in
+    let i = imageAt s in
+    let q = s .args .query .now in
+    let v = s .args .value in
+    let accepted = tested p in
+    let (number, held) = found-key i (whole p) q _ _ (found c) in (
       sym (exactSays-accepted i q accepted ∙ ap saysValue held),
-      ap (λ (k : ℕ). set (start .args .values .now) (k - 2) v) number ∙ sym (setValues-present i q accepted v _ held),
+      ap (λ (k : ℕ). set (s .args .values .now) (k - 2) v) number ∙ sym (setValues-present i q accepted v _ held),
     )
 
 pub set-value-spec : {M : Type 1} → statement M

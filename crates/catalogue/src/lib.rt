@@ -1,5 +1,7 @@
 // What the program writes of a file: the listing of its entries, or why there is none.
 // The rooms that the call works in are lent, each of the one length that its type says, so that none is too short.
+#![tactic(auto)]
+
 mod filling;
 mod listing;
 mod putting;

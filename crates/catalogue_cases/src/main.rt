@@ -3,6 +3,8 @@
 // `F` is the line of key a and value 1 again and again, 65,536 bytes in all, and behind the text of a line with `!` a
 // read fails.
 // The length of each answer is written, and the answer, of a long one its two ends.
+#![tactic(auto)]
+
 ghost use Rattle.std.specs.Prelude.{◌≤◌, length};
 
 use catalogue::reading::{begin, take_read};

@@ -1,5 +1,7 @@
 // Reads `catalogue.tsv` and writes what `catalogue::answer` says of it. The rooms that the calls are lent are main's
 // own.
+#![tactic(auto)]
+
 ghost use Rattle.std.specs.Prelude.{◌≡◌, length};
 ghost use Rattle.catalogue.specs.Reading.{file_room, Finished, what_read};
 ghost use Rattle.catalogue.specs.Program.{program_text};

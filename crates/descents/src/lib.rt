@@ -2,6 +2,8 @@
 // R-7 (`walks`).
 // Whole words of the bits are passed by their counts; a walk keeps the word that it stands in, and looks for the next
 // zero from there on.
+#![tactic(auto)]
+
 mod far;
 mod queries;
 

@@ -1,5 +1,7 @@
 // The library called: two keys are pushed and built, one is matched, both are listed, and the room left is told.
 // README.md shows `main` and `list` as they stand here, and what the program writes.
+#![tactic(auto)]
+
 mod told;
 
 use told::{built, cleared, line, looked, pushed, used};

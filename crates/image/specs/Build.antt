@@ -7,7 +7,7 @@
 --     CanQueue, ..     what the loops ask
 -- Assumes nothing.
 use Rattle.std.specs.Prelude.{ℕ, ◌+◌, ◌^◌, ◌≤◌, ◌<◌, ◌≡◌, Bool, cond, ◌&&◌, List, [], ◌∷◌, length, get_or, leb, ltb}
-use Rattle.std.specs.Borrow.{Bor}
+use Rattle.std.specs.Borrow.{MutBor}
 use denote.Triple.Both.{Both}
 use Rattle.keymap.specs.Refusals.{Refusal, refuses}
 use Rattle.keymap.specs.Bits.{words_for}
@@ -57,7 +57,7 @@ build_scratch p ls vs ws qs = cond (accepted (build_says p ls vs ws qs)) (over (
 -- one of these, of the four buffers as they were lent to a call
 abbrev pub of_lent : {W X Y Z : Type 0}
     → ((labels values words scratch : List ℕ) → List ℕ)
-    → Both (Bor (List ℕ)) W → Both (Bor (List ℕ)) X → Both (Bor (List ℕ)) Y → Both (Bor (List ℕ)) Z → List ℕ
+    → Both (MutBor (List ℕ)) W → Both (MutBor (List ℕ)) X → Both (MutBor (List ℕ)) Y → Both (MutBor (List ℕ)) Z → List ℕ
 of_lent f labels values words scratch =
     f labels.entry.now values.entry.now words.entry.now scratch.entry.now
 

@@ -1,4 +1,6 @@
 // The image of a map in lent slices: label entries, values, and the words of the level-order bits.
+#![tactic(auto)]
+
 mod acceptance;
 pub mod answers;
 mod breadth_first;

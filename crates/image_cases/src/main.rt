@@ -6,6 +6,8 @@
 // are), w (words stored into its memory) and p (a push), as tools/oracle/README.md has them, which write nothing; and b
 // and e, a build: the lengths of labels, values, words and scratch, two bytes each, and a name. After e the last entry
 // alone of each buffer is written.
+#![tactic(auto)]
+
 ghost use Rattle.std.specs.Prelude.{◌≤◌};
 
 use image::answers::Built;

@@ -1,6 +1,8 @@
 // Catalogue lines: a line is a key without TAB and LF, one TAB and a decimal number; a text is lines that end at LF.
 // One line is read or written, and the next one is cut out of a text; what becomes of the entries is not known here.
 // Every call answers for any bytes and any position. A refused write leaves the buffer as it was.
+#![tactic(auto)]
+
 pub mod answers;
 mod bytes;
 mod decimal;

@@ -3,6 +3,7 @@
 // Each call tests the image first and answers NotAnImage (6) where no map has it; then it speaks of that map.
 // Calls on a cursor answer BadPlace (7) next, and `cursor_key` answers KeyRoom (8) last. A refusal changes no lent
 // memory.
+#![tactic(auto)]
 
 pub mod answers;
 mod cursors;

@@ -3,6 +3,8 @@
 // Where a length is given the sequence is the first `len` bits, so a zero at `len` or beyond is no zero of it.
 // Map A of document 01, "ab" 7 and "b" 3, has the words [45] and 9 bits, 1 0 110 10 0 0: node 1 has the children 2 and
 // 3, node 2 has 4.
+#![tactic(auto)]
+
 pub mod answers;
 mod bits;
 mod nodes;

@@ -5,6 +5,8 @@
 // node; an image of at most three nodes, as how many there are, their labels, their values and the word of bits; and
 // the name of the case, which ends with what is asked. The images are the empty map's; A's ("ab" 7, "b" 3); that of "a"
 // 1, "ab" 2, where "a" has the place that it has in A; and the last with one bit too many, which is none.
+#![tactic(auto)]
+
 ghost use Rattle.image.specs.Meaning.{lent_image};
 ghost use Rattle.places.specs.Incremental.{place_at, QueryPromise, FollowPromise, GotoPromise};
 

@@ -2,6 +2,8 @@
 // calls answer NotAnImage (6) first,
 // then BadPlace (7) of a number that is no node's, and KeyRoom (8) of a buffer that is too short; a refusal leaves the
 // place where it is.
+#![tactic(auto)]
+
 pub mod answers;
 pub mod calls;
 mod moves;

@@ -3,6 +3,8 @@
 // not counted.
 // A push that lacks room finds that out before it writes, and every refusal leaves the pool as it was.
 // After `src/map/trie_builder.rs` and `src/internal_data_structure/naive_trie/naive_trie_impl.rs`.
+#![tactic(auto)]
+
 pub mod answers;
 mod path;
 mod pushing;

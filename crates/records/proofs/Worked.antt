@@ -92,6 +92,7 @@ worked-tests = refl
 
 -- what is said of each line in a list is said of one
 told : (ls : List Line) (l : Line) → In l ls → map (λ (k : Line). sound_test k.words) ls ≡ map (λ (k : Line). k.sound) ls → l.sound ≡ sound_test l.words
+told [] l j h = elim j [ ]
 told (k ∷ ls) l (here e) h = let first : sound_test k.words ≡ k.sound = cc in subst (λ (x : Line). x.sound ≡ sound_test x.words) (sym e) (sym first)
 told (k ∷ ls) l (there j) h = told ls l j cc
 

@@ -3,6 +3,8 @@
 // Each call but one tests the image first and answers NotAnImage (6) where no map has it; then it speaks of that map.
 // `exact_match_untested` tests the lengths alone.
 // `longest_prefix`, which writes, answers KeyRoom (8) last. A refusal changes no lent memory.
+#![tactic(auto)]
+
 pub mod answers;
 mod common_prefixes;
 mod exact;

@@ -2,3 +2,4 @@
 // definitions of the crates below.
 // The statements stand in specs/; proofs/ cites the crates' laws for them, and names the law of each public call that
 // it has one outcome.
+#![tactic(auto)]

@@ -5,6 +5,8 @@
 // Calls on a place or cursor answer BadPlace (7) next, and calls that write answer KeyRoom (8) last. A refusal changes
 // no lent memory.
 // Nodes are numbered as 01 says: 1 is the root, and the others follow in breadth-first order.
+#![tactic(auto)]
+
 pub mod place;
 
 pub use climbs::answers::Spelled;

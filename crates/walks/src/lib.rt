@@ -2,6 +2,8 @@
 // asks for an image that some map has.
 // They go by the rule of 02, R-7 (specs/Rule), on the first `len` bits; on an image that some map has they say what the
 // map says (proofs/Laws/MapWalk).
+#![tactic(auto)]
+
 pub mod answers;
 pub mod entries;
 pub mod glide;

@@ -1,6 +1,8 @@
 // Replays two lists of cases and writes the answer to each on a line: `rust_cases`, answered by the Rust, and
 // `document_cases`, answered by the scope document.
 // tools/oracle/README.md has the letters. The memory that the calls are lent is main's own.
+#![tactic(auto)]
+
 mod cursors;
 mod held;
 mod incremental;

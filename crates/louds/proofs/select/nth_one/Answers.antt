@@ -1,0 +1,62 @@
+-- `louds::select::nth_one` meets its contract: few are taken away from the bottom of the word, and of more those of the byte that has the j-th. Assumes nothing.
+use Rattle.std.proofs.Common.{◌≡◌, ℕ, ◌+◌, ◌-◌, ◌*◌, ◌/◌, ◌^◌, ◌<◌, ◌≤◌, ap, ◌∙◌, arith, rules}
+use Rattle.keymap.specs.Limits.{word_bits}
+use Rattle.louds.specs.declared.answers.Spot.TheVariants.{At}
+use Rattle.louds.specs.Digits.{digit}
+use Rattle.louds.specs.Nodes.{or_end}
+use Rattle.louds.specs.Taking.{low_bits, top_bits}
+use Rattle.louds.specs.Select.{kth}
+use Rattle.louds.proofs.Laws.Select.{kth-told}
+use Rattle.louds.proofs.Laws.NthOne.{sums-fit, ByteFound, byte-found, has-kth, from_byte}
+use Rattle.louds.proofs.select.nth_one.Goals.{After-lowest_one-start, After-ones_by_byte-sums, After-picked-2}
+use Rattle.louds.proofs.select.nth_one.Goals as goal
+
+pub returns-then-j-le-FEW : goal.returns-then-j-le-FEW
+returns-then-j-le-FEW c = has-kth c.args.word c.args.j c.picked.result c.ranges.word.fits c.requires.0 c.requires.1 c.picked.ensures
+
+-- the ranks are compared with j in all bytes at once, and nothing wraps
+module _ (c : After-ones_by_byte-sums) where
+  fit : (c.ones_by_byte-sums.result + top_bits < 2 ^ word_bits) × (c.args.j * low_bits < 2 ^ word_bits) × (c.args.j * low_bits ≤ c.ones_by_byte-sums.result + top_bits)
+  fit = sums-fit c.args.word c.args.j c.ranges.word.fits c.requires.0 c.requires.1 c.ones_by_byte-sums.result c.ones_by_byte-sums.ensures
+
+pub overflow_add-reached : goal.overflow_add-reached
+overflow_add-reached c = omega (arith, (fit c).0)
+
+pub overflow_mul-reached : goal.overflow_mul-reached
+overflow_mul-reached c = omega (arith, (fit c).1)
+
+pub overflow_sub-reached : goal.overflow_sub-reached
+overflow_sub-reached c = (fit c).2
+
+-- the byte that has the j-th one
+byte : (c : After-lowest_one-start)
+    → ByteFound c.args.word c.args.j c.ones_by_byte-sums.result c.lowest_one-start.result
+byte c =
+    byte-found c.args.word c.args.j c.ranges.word.fits c.requires.0 c.requires.1 c.ones_by_byte-sums.result c.lowest_one-start.result c.ones_by_byte-sums.ensures c.lowest_one-start.ensures
+
+pub overflow_sub-start : goal.overflow_sub-start
+overflow_sub-start c = (byte c).least
+
+pub overflow_shr-below : goal.overflow_shr-below
+overflow_shr-below c = (byte c).near
+
+pub overflow_shr-word : goal.overflow_shr-word
+overflow_shr-word c = (byte c).near
+
+pub overflow_sub-j : goal.overflow_sub-j
+overflow_sub-j c = omega (arith, (byte c).below, (byte c).fewer)
+
+-- by the byte's own digits
+in-byte : (c : After-picked-2) → kth (digit c.args.word) word_bits c.args.j ≡ At (c.lowest_one-start.result - 7 + c.picked-2.result)
+in-byte c =
+    let b = byte c.before in
+    let start : ℕ = c.lowest_one-start.result - 7 in
+    from_byte c.args.word c.args.j start c.picked-2.result c.ranges.word.fits b.fewer c.requires.1
+    (c.picked-2.ensures ∙ ap (λ (u : ℕ). or_end word_bits (kth (digit (c.args.word / 2 ^ start)) word_bits (c.args.j - u))) b.below)
+
+pub overflow_add-result : goal.overflow_add-result
+overflow_add-result c =
+    omega (arith, (kth-told (digit c.args.word) word_bits c.args.j (c.lowest_one-start.result - 7 + c.picked-2.result) (in-byte c)).inside)
+
+pub returns : goal.returns
+returns c = in-byte c

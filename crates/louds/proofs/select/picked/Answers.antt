@@ -1,0 +1,39 @@
+use Rattle.std.proofs.Common.{sym, ap, ◌∙◌, arith, rules}
+use Rattle.keymap.specs.Limits.{word_bits}
+use Rattle.louds.specs.Digits.{digit}
+use Rattle.louds.specs.Nodes.{or_end}
+use Rattle.louds.specs.Select.{kth}
+use Rattle.louds.proofs.Laws.Select.{kth-zero}
+use Rattle.louds.proofs.Laws.NthOne.{Picking, picking-start, picking-none, picking-next, picking-last}
+use Rattle.louds.proofs.select.picked.Goals as goal
+
+pub returns-then-j-eq0 : goal.returns-then-j-eq0
+unfolding or_end
+returns-then-j-eq0 c = let a = c.args in sym (ap (or_end word_bits) (ap (kth (digit a.word) word_bits) c.if-j-eq0.true ∙ kth-zero (digit a.word) word_bits))
+
+pub loop-rest-init : goal.loop-rest-init
+loop-rest-init c = picking-start c.args.word c.args.j c.ranges.word.fits (omega (arith, c.if-j-eq0.false))
+
+pub returns-then-left-eq1 : goal.returns-then-left-eq1
+returns-then-left-eq1 c =
+    let l = c.loop-rest in
+    c.lowest_one.ensures ∙ picking-last c.args.word c.args.j c.ranges.word.fits l.left l.rest l.invariant c.loop-rest-test.true c.if-left-eq1.true
+
+pub overflow_sub-rest : goal.overflow_sub-rest
+overflow_sub-rest c = omega (arith, c.loop-rest-test.true)
+
+pub overflow_sub-left : goal.overflow_sub-left
+overflow_sub-left c = c.loop-rest.invariant.some
+
+pub loop-rest-smaller : goal.loop-rest-smaller
+loop-rest-smaller c = omega (arith, c.loop-rest.invariant.some)
+
+pub loop-rest-preserved : goal.loop-rest-preserved
+loop-rest-preserved c =
+    let l = c.loop-rest in
+    picking-next c.args.word c.args.j c.ranges.word.fits l.left l.rest l.invariant c.loop-rest-test.true c.if-left-eq1.false
+
+pub returns : goal.returns
+returns c =
+    let l = c.loop-rest in
+    picking-none c.args.word c.args.j c.ranges.word.fits l.left l.rest l.invariant c.loop-rest-test.false

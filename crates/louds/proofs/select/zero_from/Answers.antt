@@ -1,0 +1,21 @@
+-- `louds::select::zero_from` meets its contract: one found in the first word is the answer; else the bits that equal 0 mark the zeros. Assumes nothing.
+use Rattle.std.proofs.Common.{ℕ, ◌+◌, ◌*◌, ◌/◌, min, sym, ap, ◌∙◌, rules}
+use native.Mathlib.Nat.{min-le_left}
+use Rattle.keymap.specs.Limits.{word_bits}
+use Rattle.keymap.specs.Bits.{bit}
+use Rattle.louds.specs.Rank.{gap}
+use Rattle.louds.specs.Select.{kth, onward}
+use Rattle.louds.proofs.Laws.Select.{marks-zero, kth-longer}
+use Rattle.louds.proofs.select.zero_from.Goals as goal
+
+pub returns-in-At : goal.returns-in-At
+returns-in-At c =
+    let a = c.args in
+    let b = bit a.words.now in
+    let all = (a.from / word_bits + 1) * word_bits in
+    sym (kth-longer (onward a.from (gap b)) (min a.len all) a.len a.k c.in-At.p (min-le_left a.len all) (sym c.near_zero.ensures ∙ c.in-At.is))
+
+pub returns : goal.returns
+returns c =
+    let a = c.args in
+    c.bit_from.ensures ∙ ap (λ (m : ℕ → ℕ). kth (onward a.from m) a.len a.k) (marks-zero (bit a.words.now))

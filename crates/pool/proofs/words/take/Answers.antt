@@ -1,0 +1,11 @@
+-- `pool::words::take` meets its contract. Assumes nothing.
+use borrow.Author.Rules.{rules}
+use Rattle.records.specs.Words.{taken}
+use Rattle.pool.proofs.words.take.Goals as goal
+
+pub shape_of-pool : goal.shape_of-pool
+shape_of-pool c = c.set_word.auto.pool
+
+pub returns : goal.returns
+unfolding taken
+returns c = c.set_word.ensures

@@ -9,7 +9,7 @@ ghost use Rattle.catalogue.specs.Limits.{program_capacity};
 use crate::sizes::POOL_WORDS;
 use lines::answers::{Cut, Parsed};
 
-#[derive(Drop)]
+#[derive(Clone, Copy)]
 pub enum Filled {
     // Every line is pushed.
     Done,

@@ -8,7 +8,7 @@ ghost use Rattle.catalogue.specs.Reading.{nothing_read, next_at, take_read};
 use crate::sizes::FILE_ROOM;
 
 // How far a file is read. Nothing outside this crate can make one but by the calls below.
-#[derive(Drop)]
+#[derive(Clone, Copy)]
 pub struct Reading {
     // So many bytes of the file stand at the start of the room.
     pub(crate) done: usize,

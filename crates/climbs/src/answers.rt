@@ -4,7 +4,7 @@ ghost use Rattle.keymap.specs.Answers.{answer_number};
 ghost use Rattle.climbs.specs.Spelling.{said_spelled};
 
 // A key or prefix written to a lent buffer.
-#[derive(Drop)]
+#[derive(Clone, Copy)]
 pub enum Spelled {
     // How many bytes were written; those past them stay.
     Wrote(usize),

@@ -14,13 +14,13 @@ use crate::perches::{Perch, Rise, parent_of, perch_at};
 use louds::{Spot, bit_at, zero_from};
 use walks::entries::{Held, counts_to, value_at};
 
-#[derive(Drop)]
+#[derive(Clone, Copy)]
 enum Moved {
     To(Perch),
     Nowhere,
 }
 
-#[derive(Drop)]
+#[derive(Clone, Copy)]
 pub enum Given {
     Entry { node: usize, value: u32 },
     Nothing,

@@ -10,14 +10,14 @@ use louds::{Up, one_back, parent};
 use walks::stands::or_end;
 
 // A node with the place of its one.
-#[derive(Drop)]
+#[derive(Clone, Copy)]
 pub struct Perch {
     pub node: usize,
     // Where the node's one is, or the end of the bits.
     pub one: usize,
 }
 
-#[derive(Drop)]
+#[derive(Clone, Copy)]
 pub enum Rise {
     Parent(Perch),
     // The node's one is missing, or the number of its parent is not from 1 to the node's less 1.

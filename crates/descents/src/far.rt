@@ -20,7 +20,7 @@ const FAR: usize = 110;
 const ALL_ONES: u64 = 0xffffffffffffffff;
 
 // Words that are passed, and the zeros that are left.
-#[derive(Drop)]
+#[derive(Clone, Copy)]
 pub struct Passed {
     pub words: usize,
     pub left: usize,
@@ -28,7 +28,7 @@ pub struct Passed {
 
 // The words up to the one kept and with it, the zeros from its start on to the node's, all its zeros, and those up to
 // the end of each of its bytes.
-#[derive(Drop)]
+#[derive(Clone, Copy)]
 pub struct Kept {
     pub words: usize,
     pub left: usize,
@@ -37,7 +37,7 @@ pub struct Kept {
 }
 
 // How far whole words took a walk.
-#[derive(Drop)]
+#[derive(Clone, Copy)]
 pub enum Went {
     // At a node after some steps: the word kept is word kept-1, and from its start on the node's zero is the `left`-th.
     // Where `kept` is 0 there is none, and the zero is the `left`-th from bit 0 on.

@@ -13,7 +13,7 @@ use walks::stands::Stand;
 
 // Where a walk ended: at a node whose zero was not looked for yet, as whole words leave it (`far::Went`), at a stand,
 // or nowhere.
-#[derive(Drop)]
+#[derive(Clone, Copy)]
 enum Ended {
     Near {
         node: usize,

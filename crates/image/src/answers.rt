@@ -5,7 +5,7 @@ ghost use Rattle.image.specs.AcceptAnswer.{said_checked};
 ghost use Rattle.image.specs.Build.{said_built};
 
 // Of lent slices.
-#[derive(Drop)]
+#[derive(Clone, Copy)]
 pub enum Checked {
     // Some map with nonempty keys has them for its image.
     Accepted,
@@ -26,7 +26,7 @@ impl Checked {
 }
 
 // Of build. A refusal writes nothing.
-#[derive(Drop)]
+#[derive(Clone, Copy)]
 pub enum Built {
     // The image is written, with so many nodes besides the root.
     Nodes(u32),

@@ -4,7 +4,7 @@ ghost use Rattle.keymap.specs.Answers.{answer_number};
 ghost use Rattle.lines.specs.Answers.{said_parsed, said_written};
 
 // Of `tab_line`.
-#[derive(Drop)]
+#[derive(Clone, Copy)]
 pub enum Parsed {
     // The key is the line's first `key_len` bytes.
     Entry { key_len: usize, number: u32 },
@@ -28,7 +28,7 @@ impl Parsed {
 }
 
 // Of `next_line`.
-#[derive(Drop)]
+#[derive(Clone, Copy)]
 pub enum Cut {
     // The line goes from the position up to, not including, `end`, where its LF or the text's end is; the next line
     // begins at `next`.
@@ -38,7 +38,7 @@ pub enum Cut {
 }
 
 // Of `write_line`.
-#[derive(Drop)]
+#[derive(Clone, Copy)]
 pub enum Written {
     // So many bytes are the line's, its LF among them.
     Length(usize),

@@ -14,7 +14,7 @@ pub const MOST_DIGITS: usize = 10;
 pub const VALUE_LIMIT: u64 = 4294967296;
 
 // What a text spells under the rule for numbers.
-#[derive(Drop)]
+#[derive(Clone, Copy)]
 pub enum Numeral {
     Number(u32),
     // The text breaks the rule.
@@ -22,7 +22,7 @@ pub enum Numeral {
 }
 
 // What digits stand for.
-#[derive(Drop)]
+#[derive(Clone, Copy)]
 pub enum Digits {
     Value(u64),
     // A byte is no digit.

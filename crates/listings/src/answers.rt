@@ -5,14 +5,14 @@ ghost use Rattle.listings.specs.Answers.{said_started, said_stepped};
 ghost use Rattle.listings.specs.declared.answers.Cursor.TheVariants.{Open, Finished};
 
 // Which keys a listing gives: those that begin with the query, or those that are longer besides.
-#[derive(Drop)]
+#[derive(Clone, Copy)]
 pub enum Kind {
     Predictive,
     Postfix,
 }
 
 // Where a listing stands.
-#[derive(Drop)]
+#[derive(Clone, Copy)]
 pub enum Cursor {
     // Below the node `top`; `last` is the node given last, 0 before the first step.
     Open { kind: Kind, top: u32, last: u32 },
@@ -40,7 +40,7 @@ impl Cursor {
 }
 
 // A listing's start.
-#[derive(Drop)]
+#[derive(Clone, Copy)]
 pub enum Started {
     At(Cursor),
     // The lent image is no map's image.
@@ -60,7 +60,7 @@ impl Started {
 }
 
 // A step of a listing.
-#[derive(Drop)]
+#[derive(Clone, Copy)]
 pub enum Stepped {
     // The least key of the set above the last one given: its node and value, and the cursor to go on with.
     Gave { node: u32, value: u32, next: Cursor },

@@ -1,7 +1,7 @@
 // What the calls answer.
 
 // Where a bit stands that was asked for.
-#[derive(Drop)]
+#[derive(Clone, Copy)]
 pub enum Spot {
     At(usize),
     // The sequence has no such bit.
@@ -9,7 +9,7 @@ pub enum Spot {
 }
 
 // The children of a node.
-#[derive(Drop)]
+#[derive(Clone, Copy)]
 pub enum Children {
     // They are numbered on from `first`, and there are `count` of them, maybe none.
     Run { first: usize, count: usize },
@@ -18,7 +18,7 @@ pub enum Children {
 }
 
 // The parent of a node.
-#[derive(Drop)]
+#[derive(Clone, Copy)]
 pub enum Up {
     // Its number, which is 0 for a one before the first zero.
     Node(usize),

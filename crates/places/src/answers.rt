@@ -5,7 +5,7 @@ ghost use Rattle.places.specs.Incremental.{tells_prefix, tells_match, place_at, 
 ghost use Rattle.places.specs.Places.{said_resumed, said_valued, said_measured};
 
 // Where a search stands: a node's number, from 1 to n+1.
-#[derive(Drop)]
+#[derive(Clone, Copy)]
 pub struct Place {
     pub node: u32,
 }
@@ -23,7 +23,7 @@ impl Place {
 }
 
 // A node's number that is to be a place.
-#[derive(Drop)]
+#[derive(Clone, Copy)]
 pub enum Resumed {
     At(Place),
     // The lent image is no map's image.
@@ -46,7 +46,7 @@ impl Resumed {
 }
 
 // What a place's path has.
-#[derive(Drop)]
+#[derive(Clone, Copy)]
 pub enum Valued {
     Value(u32),
     // The path is no key of the map; the root's never is.
@@ -72,7 +72,7 @@ impl Valued {
 }
 
 // How long a place's path is.
-#[derive(Drop)]
+#[derive(Clone, Copy)]
 pub enum Measured {
     Length(usize),
     // The lent image is no map's image.
@@ -95,7 +95,7 @@ impl Measured {
 }
 
 // What a path is: a prefix of longer keys, a key, or both.
-#[derive(Drop)]
+#[derive(Clone, Copy)]
 pub enum Answer {
     Prefix,
     Match,
@@ -125,7 +125,7 @@ impl Answer {
 }
 
 // A query by one label.
-#[derive(Drop)]
+#[derive(Clone, Copy)]
 pub enum Queried {
     Found(Answer),
     // The place has no such child.
@@ -151,7 +151,7 @@ impl Queried {
 }
 
 // A query by several labels.
-#[derive(Drop)]
+#[derive(Clone, Copy)]
 pub enum Followed {
     Ok(Answer),
     // The index of the first label that led nowhere, 0 of the empty query.
@@ -177,7 +177,7 @@ impl Followed {
 }
 
 // A move to the longest common prefix of the longer keys that begin with a place's path.
-#[derive(Drop)]
+#[derive(Clone, Copy)]
 pub enum Gone {
     // It is a key, or there are no such keys: how many labels the place moved.
     Ok(usize),
@@ -204,19 +204,19 @@ impl Gone {
 }
 
 // An answer, and the node where the place is left.
-#[derive(Drop)]
+#[derive(Clone, Copy)]
 pub struct QueryMove {
     pub answer: Queried,
     pub node: u32,
 }
 
-#[derive(Drop)]
+#[derive(Clone, Copy)]
 pub struct FollowMove {
     pub answer: Followed,
     pub node: u32,
 }
 
-#[derive(Drop)]
+#[derive(Clone, Copy)]
 pub struct GotoMove {
     pub answer: Gone,
     pub node: u32,

@@ -4,7 +4,7 @@ ghost use Rattle.keymap.specs.Answers.{answer_number};
 ghost use Rattle.pool.specs.Answers.{said_cleared, said_counted, said_pushed};
 
 // Of reset.
-#[derive(Drop)]
+#[derive(Clone, Copy)]
 pub enum Cleared {
     // Record 0 is zeroed.
     Done,
@@ -25,7 +25,7 @@ impl Cleared {
 }
 
 // Of the use count.
-#[derive(Drop)]
+#[derive(Clone, Copy)]
 pub enum Counted {
     // The number of records in use; the root is left out.
     Records(u32),
@@ -49,7 +49,7 @@ impl Counted {
 }
 
 // Of push.
-#[derive(Drop)]
+#[derive(Clone, Copy)]
 pub enum Pushed {
     // The key has the value; an old value is replaced.
     Done,

@@ -9,7 +9,7 @@ use crate::words::{fill, link, take};
 use records::words::last_record;
 
 // How far down a key leads: the record, and how many bytes led there.
-#[derive(Drop)]
+#[derive(Clone, Copy)]
 pub struct Reach {
     pub at: u32,
     pub depth: usize,

@@ -6,7 +6,7 @@ ghost use Rattle.pool.specs.Siblings.{slot_of, child_at};
 use records::words::{first_child, label_of, last_record, next_sibling};
 
 // A place among siblings: the one before it and the one that stands there, 0 where there is none.
-#[derive(Drop)]
+#[derive(Clone, Copy)]
 pub struct Slot {
     pub prev: u32,
     pub next: u32,

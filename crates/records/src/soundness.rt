@@ -14,7 +14,7 @@ use crate::words::{
 };
 
 // How many records are left to be met, or that a record or a chain is broken.
-#[derive(Drop)]
+#[derive(Clone, Copy)]
 enum Rest {
     Left(u32),
     Broken,

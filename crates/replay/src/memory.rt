@@ -9,7 +9,7 @@ pub const LONGEST: usize = 4200;
 pub const MOST: u32 = 4096;
 
 // How much of the memory is lent as the pool, and as the image.
-#[derive(Drop)]
+#[derive(Clone, Copy)]
 pub struct Lent {
     pub pool: usize,
     pub labels: usize,

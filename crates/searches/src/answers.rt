@@ -4,7 +4,7 @@ ghost use Rattle.keymap.specs.Answers.{answer_number};
 ghost use Rattle.searches.specs.Answers.{said_looked, said_prefixed, said_longest, said_common};
 
 // What a key has: `exact_match` and `exact_match_untested`, and `set_value` with what it had before.
-#[derive(Drop)]
+#[derive(Clone, Copy)]
 pub enum Looked {
     Value(u32),
     // The query is no key of the map, or, of an image that is not tested, leads to no value; the empty query never
@@ -28,7 +28,7 @@ impl Looked {
 }
 
 // Whether some key begins with a query and is longer.
-#[derive(Drop)]
+#[derive(Clone, Copy)]
 pub enum Prefixed {
     Yes,
     No,
@@ -50,7 +50,7 @@ impl Prefixed {
 }
 
 // The longest common prefix of the keys that begin with a query.
-#[derive(Drop)]
+#[derive(Clone, Copy)]
 pub enum Longest {
     // How many bytes were written; those past them stay.
     Wrote(usize),
@@ -77,7 +77,7 @@ impl Longest {
 }
 
 // The shortest key that is a prefix of a query and longer than what was seen.
-#[derive(Drop)]
+#[derive(Clone, Copy)]
 pub enum Common {
     Match { length: usize, value: u32 },
     NoMatch,

@@ -14,7 +14,7 @@ use walks::moves::Reached;
 use walks::stands::kids;
 
 // A key by its node.
-#[derive(Drop)]
+#[derive(Clone, Copy)]
 pub enum Keyed {
     At { node: usize, value: u32 },
     NoKey,

@@ -2,7 +2,7 @@
 // case.
 
 // The children of a node.
-#[derive(Drop)]
+#[derive(Clone, Copy)]
 pub struct Kids {
     pub first: usize,
     pub count: usize,

@@ -6,14 +6,14 @@ ghost use Rattle.walks.specs.Stands.{held_of};
 use image::MARK;
 
 // Which child has a label.
-#[derive(Drop)]
+#[derive(Clone, Copy)]
 pub enum Child {
     Node(usize),
     Absent,
 }
 
 // What a node holds.
-#[derive(Drop)]
+#[derive(Clone, Copy)]
 pub enum Held {
     Value(u32),
     NoValue,

@@ -8,7 +8,7 @@ use crate::moves::Reached;
 use crate::stands::{Stand, kid_at, kids};
 
 // Where a glide ended, and how many labels it passed.
-#[derive(Drop)]
+#[derive(Clone, Copy)]
 pub struct Glided {
     pub stand: Stand,
     pub steps: usize,

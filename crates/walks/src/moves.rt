@@ -7,7 +7,7 @@ use crate::entries::Child;
 use crate::siblings::child_within;
 use crate::stands::{Stand, kid_at, kids};
 
-#[derive(Drop)]
+#[derive(Clone, Copy)]
 pub enum Reached {
     To(Stand),
     NoPath,

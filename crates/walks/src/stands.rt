@@ -10,7 +10,7 @@ use crate::answers::Kids;
 use louds::{Spot, zero_at, zero_from};
 
 // A node with the place of its zero.
-#[derive(Drop)]
+#[derive(Clone, Copy)]
 pub struct Stand {
     pub node: usize,
     // Where the node's zero is, or the end of the bits; its children are the ones behind it.

@@ -1,7 +1,7 @@
 // What is kept from case to case: the place, and the cursor as numbers.
 use trie::{Cursor, Kind};
 
-#[derive(Drop)]
+#[derive(Clone, Copy)]
 pub struct Held {
     pub place: u32,
     // Whether the cursor is open, its kind, its top and the node given last.

@@ -1,0 +1,53 @@
+use mathlib.Core.Path.{◌≡◌, sym, ap, ◌∙◌}
+use native.Mathlib.Omega.{arith}
+use borrow.Author.Rules.{rules}
+use Rattle.keymap.specs.Bits.{bit}
+use Rattle.keymap.proofs.Laws.Bits.{bit-small}
+use Rattle.climbs.specs.declared.perches.Perch.{Perch}
+use Rattle.climbs.specs.Perches.{perch_at}
+use Rattle.climbs.specs.Below.{below_by}
+use Rattle.climbs.proofs.Laws.Perches.{RiseTold, rise-to, rise-lost}
+use Rattle.climbs.proofs.Laws.Below.{below_by-here, below_by-lost, below_by-up}
+use Rattle.climbs.proofs.below.is_below.Goals.{In-Parent}
+use Rattle.climbs.proofs.below.is_below.Goals as goal
+
+pub loop-at-init : goal.loop-at-init
+loop-at-init c =
+    let a = c.args in
+    let b = bit a.words.now in
+    let told = c.perch_at-at.ensures in
+    let own = ap (λ (p : Perch). p.node) told in
+    (told ∙ ap (perch_at b a.len) (sym own), ap (below_by b a.len a.top) (sym own))
+
+pub returns-in_default : goal.returns-in_default
+returns-in_default c =
+    let a = c.args in
+    let l = c.loop-at in
+    let b = bit a.words.now in
+    let top = rise-lost b (bit-small a.words.now) a.len l.at l.invariant.0 _ c.parent_of.ensures c.in_default.is in
+    sym (l.invariant.1 ∙ below_by-lost b a.len a.top l.at.node (omega arith) top)
+
+-- where the step led
+there : (c : In-Parent)
+    → 
+    let a = c.args in
+    RiseTold (bit a.words.now) a.len c.loop-at.at.node c.in-Parent.up
+there c =
+    let a = c.args in
+    let l = c.loop-at in
+    rise-to (bit a.words.now) (bit-small a.words.now) a.len l.at l.invariant.0 _ c.parent_of.ensures _ c.in-Parent.is
+
+pub loop-at-smaller : goal.loop-at-smaller
+loop-at-smaller c = (there c).lower
+
+pub loop-at-preserved : goal.loop-at-preserved
+loop-at-preserved c =
+    let a = c.args in
+    let l = c.loop-at in
+    ((there c).knows, l.invariant.1 ∙ below_by-up (bit a.words.now) a.len a.top l.at.node _ (omega arith) (there c).node)
+
+pub returns : goal.returns
+returns c =
+    let a = c.args in
+    let l = c.loop-at in
+    sym (l.invariant.1 ∙ below_by-here (bit a.words.now) a.len a.top l.at.node (omega arith))

@@ -1,0 +1,45 @@
+use mathlib.Core.Path.{◌≡◌, refl, sym, ◌∙◌}
+use native.Mathlib.Omega.{arith}
+use borrow.Author.Rules.{rules}
+use Rattle.keymap.specs.Bits.{bit}
+use Rattle.climbs.specs.Moves.{climb_from}
+use Rattle.climbs.proofs.Laws.Moves.{rise-lower, climb_from-top, climb_from-beside, climb_from-lost, climb_from-up}
+use Rattle.climbs.proofs.order.climb.Goals as goal
+
+pub loop-at-init : goal.loop-at-init
+loop-at-init c = refl
+
+pub returns-in-To : goal.returns-in-To
+returns-in-To c =
+    let a = c.args in
+    let l = c.loop-at in
+    sym (l.invariant ∙ climb_from-beside (bit a.words.now) a.len a.last a.top l.at (omega arith) _ (sym c.beside.ensures ∙ c.in-To.is))
+
+pub returns-in_default : goal.returns-in_default
+returns-in_default c =
+    let a = c.args in
+    let l = c.loop-at in
+    sym
+    (l.invariant
+    ∙ climb_from-lost (bit a.words.now) a.len a.last a.top l.at (omega arith) (sym c.beside.ensures ∙ c.in-Nowhere.is)
+    (sym c.parent_of.ensures ∙ c.in_default.is))
+
+pub loop-at-smaller : goal.loop-at-smaller
+loop-at-smaller c =
+    let a = c.args in
+    let l = c.loop-at in
+    rise-lower (bit a.words.now) a.len l.at _ (sym c.parent_of.ensures ∙ c.in-Parent.is)
+
+pub loop-at-preserved : goal.loop-at-preserved
+loop-at-preserved c =
+    let a = c.args in
+    let l = c.loop-at in
+    l.invariant
+    ∙ climb_from-up (bit a.words.now) a.len a.last a.top l.at (omega arith) (sym c.beside.ensures ∙ c.in-Nowhere.is) _
+    (sym c.parent_of.ensures ∙ c.in-Parent.is)
+
+pub returns : goal.returns
+returns c =
+    let a = c.args in
+    let l = c.loop-at in
+    sym (l.invariant ∙ climb_from-top (bit a.words.now) a.len a.last a.top l.at (omega arith))

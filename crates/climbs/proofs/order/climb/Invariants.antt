@@ -1,0 +1,15 @@
+-- `climbs::order::climb` meets its contract. The invariant: the climb from the perch is the climb from the first.
+-- The measure is the perch's number: parents have lower ones. Assumes nothing.
+use mathlib.Core.Path.{◌≡◌, refl, sym, ◌∙◌}
+use native.Mathlib.Omega.{arith}
+use borrow.Author.Rules.{rules}
+use Rattle.keymap.specs.Bits.{bit}
+use Rattle.climbs.specs.Moves.{climb_from}
+use Rattle.climbs.proofs.Laws.Moves.{rise-lower, climb_from-top, climb_from-beside, climb_from-lost, climb_from-up}
+use Rattle.climbs.proofs.order.climb.Given as goal
+
+abbrev pub invariant-loop-at : goal.invariant-loop-at
+invariant-loop-at l = climb_from (bit l.words) l.len l.last l.top l.initial.at ≡ climb_from (bit l.words) l.len l.last l.top l.at
+
+abbrev pub decreases-loop-at : goal.decreases-loop-at
+decreases-loop-at l = l.at.node

@@ -1,0 +1,18 @@
+-- `climbs::order::leads_down` meets its contract: each test is one of the definition's. Assumes nothing.
+use mathlib.Core.Path.{sym}
+use native.Mathlib.Omega.{arith}
+use borrow.Author.Rules.{rules}
+use Rattle.climbs.proofs.Laws.Moves.{leads-far, leads-zero, leads-before, leads-last}
+use Rattle.climbs.proofs.order.leads_down.Goals as goal
+
+pub returns-then-len-one : goal.returns-then-len-one
+returns-then-len-one c = let a = c.args in sym (leads-far a.len a.node a.one (omega arith))
+
+pub returns-then-node-eq0 : goal.returns-then-node-eq0
+returns-then-node-eq0 c = let a = c.args in sym (leads-zero a.len a.node a.one (omega arith) c.if-node-eq0.true)
+
+pub returns-then-one-node : goal.returns-then-one-node
+returns-then-one-node c = let a = c.args in sym (leads-before a.len a.node a.one (omega arith) c.if-node-eq0.false (omega arith))
+
+pub returns : goal.returns
+returns c = let a = c.args in sym (leads-last a.len a.node a.one (omega arith) c.if-node-eq0.false (omega arith))

@@ -1,0 +1,50 @@
+use mathlib.Core.Path.{◌≡◌, sym, ap, ◌∙◌}
+use Prim.Native.Nat.{◌+◌, ◌≤◌}
+use native.Mathlib.Omega.{arith}
+use borrow.Author.Rules.{rules}
+use Rattle.keymap.specs.Bits.{bit}
+use Rattle.keymap.proofs.Laws.Bits.{bit-small}
+use Rattle.climbs.specs.declared.perches.Perch.{Perch}
+use Rattle.climbs.specs.Perches.{depth_by, perch_at}
+use Rattle.climbs.proofs.Laws.Perches.{depth-root, depth-next, RiseTold, rise-to, rise-lost}
+use Rattle.climbs.proofs.perches.depth.Goals.{In-Parent}
+use Rattle.climbs.proofs.perches.depth.Goals as goal
+
+pub loop-up-init : goal.loop-up-init
+loop-up-init c =
+    let a = c.args in
+    let b = bit a.words.now in
+    let told = c.perch_at-at.ensures in
+    let own : c.perch_at-at.result.node ≡ a.node = ap (λ (p : Perch). p.node) told in
+    (told ∙ ap (perch_at b a.len) (sym own), omega (arith, own), omega (arith, ap (depth_by b a.len) own))
+
+pub returns-in_default : goal.returns-in_default
+returns-in_default c =
+    let a = c.args in
+    let l = c.loop-up in
+    let b = bit a.words.now in
+    let top = rise-lost b (bit-small a.words.now) a.len l.at l.invariant.0 _ c.parent_of.ensures c.in_default.is in
+    omega (arith, l.invariant.2, depth-root b a.len l.at.node top)
+
+-- where the step led
+there : (c : In-Parent)
+    → RiseTold (bit c.args.words.now) c.args.len
+    c.loop-up.at.node
+    c.in-Parent.up
+there c =
+    let a = c.args in
+    let l = c.loop-up in
+    rise-to (bit a.words.now) (bit-small a.words.now) a.len l.at l.invariant.0 _ c.parent_of.ensures _ c.in-Parent.is
+
+pub overflow_add-count : goal.overflow_add-count
+overflow_add-count c = omega (arith, c.loop-up.invariant.1, (there c).lower)
+
+pub loop-up-smaller : goal.loop-up-smaller
+loop-up-smaller c = (there c).lower
+
+pub loop-up-preserved : goal.loop-up-preserved
+loop-up-preserved c =
+    let a = c.args in
+    let l = c.loop-up in
+    let next = depth-next (bit a.words.now) a.len l.at.node _ (there c).node in
+    ((there c).knows, omega (arith, l.invariant.1, (there c).lower), omega (arith, l.invariant.2, next))

@@ -1,0 +1,36 @@
+-- `descents::queries::end_of` meets its contract: the node of the stand where the walk ended. Assumes nothing.
+use mathlib.Core.Path.{◌≡◌, sym, ap, ◌∙◌}
+use Rattle.keymap.specs.Bits.{bit}
+use Rattle.descents.specs.declared.queries.Ended.{Ended}
+use Rattle.walks.specs.Rule.{walked}
+use Rattle.walks.specs.Stands.{child_of, reached_at}
+use Rattle.descents.specs.Far.{stand_near, ended_at}
+use Rattle.walks.proofs.Laws.Stands.{reached_at-to, reached_at-lost}
+use borrow.Author.Rules.{rules}
+use Rattle.descents.proofs.queries.end_of.Goals.{After-reach_end}
+use Rattle.descents.proofs.queries.end_of.Goals as goal
+
+-- where the walk ended, by the rule
+told : (c : After-reach_end) (r : Ended) → c.reach_end.result ≡ r
+    → let a = c.args in
+    reached_at (bit a.words.now) a.len (walked a.labels.now (bit a.words.now) a.len a.query.now) ≡ ended_at (bit a.words.now) a.len r
+told c r e = sym c.reach_end.ensures ∙ ap (ended_at (bit c.args.words.now) c.args.len) e
+
+pub returns-in-Near : goal.returns-in-Near
+returns-in-Near c =
+    let a = c.args in
+    let b = bit a.words.now in
+    let near = stand_near b a.len c.in-Near.node c.in-Near.kept c.in-Near.left in
+    sym (ap child_of (reached_at-to b a.len (walked a.labels.now b a.len a.query.now) near (told (goal.at.returns-in-Near c).After-reach_end _ c.in-Near.is)).node)
+
+pub returns-in-At : goal.returns-in-At
+returns-in-At c =
+    let a = c.args in
+    let b = bit a.words.now in
+    sym (ap child_of (reached_at-to b a.len (walked a.labels.now b a.len a.query.now) c.in-At.s (told (goal.at.returns-in-At c).After-reach_end _ c.in-At.is)).node)
+
+pub returns-in-Nowhere : goal.returns-in-Nowhere
+returns-in-Nowhere c =
+    let a = c.args in
+    let b = bit a.words.now in
+    sym (ap child_of (reached_at-lost b a.len (walked a.labels.now b a.len a.query.now) (told (goal.at.returns-in-Nowhere c).After-reach_end _ c.in-Nowhere.is)))

@@ -1,0 +1,50 @@
+use mathlib.Core.Path.{◌≡◌, sym, ap, ◌∙◌}
+use Prim.Native.Nat.{◌+◌, ◌-◌, ◌≤◌}
+use native.Mathlib.Omega.{arith}
+use borrow.Author.Rules.{rules}
+use Rattle.walks.specs.Rule.{lowest_by}
+use Rattle.walks.specs.Stands.{child_of}
+use Rattle.walks.proofs.Laws.Siblings.{among-start, among-here, among-past, among-end}
+use Rattle.walks.proofs.siblings.child_among.Goals as goal
+
+pub loop-at-init : goal.loop-at-init
+loop-at-init c =
+    let a = c.args in
+    let inner = c.larger.ensures in
+    let outer = c.larger-at.ensures in (
+      omega (arith, inner, outer),
+      omega (arith, inner, outer),
+      among-start a.labels.now a.node a.label a.from a.to c.larger-at.result c.smaller-high.result (omega (arith, inner, outer)) (omega (arith, inner, outer)) c.smaller-high.ensures,
+    )
+
+pub overflow_sub-at : goal.overflow_sub-at
+overflow_sub-at c = omega (arith, c.loop-at.invariant.1)
+
+pub returns-then-entry_matches : goal.returns-then-entry_matches
+returns-then-entry_matches c =
+    let a = c.args in
+    let l = c.loop-at in
+    let high = c.smaller-high.result in
+    sym
+    (ap child_of
+    (l.invariant.2
+    ∙ among-here a.labels.now a.node a.label l.at high l.invariant.0 l.invariant.1 (omega arith) (omega (arith, c.smaller-high.ensures))
+    (sym c.entry_matches.ensures ∙ c.if-entry_matches.true)))
+
+pub loop-at-preserved : goal.loop-at-preserved
+loop-at-preserved c =
+    let a = c.args in
+    let l = c.loop-at in
+    let high = c.smaller-high.result in (
+      omega (arith, l.invariant.0),
+      omega arith,
+      l.invariant.2
+          ∙ among-past a.labels.now a.node a.label l.at high l.invariant.0 l.invariant.1 (omega arith) (omega (arith, c.smaller-high.ensures))
+          (sym c.entry_matches.ensures ∙ c.if-entry_matches.false),
+    )
+
+pub returns : goal.returns
+returns c =
+    let a = c.args in
+    let l = c.loop-at in
+    sym (ap child_of (l.invariant.2 ∙ among-end a.labels.now a.node a.label l.at c.smaller-high.result (omega arith)))

@@ -1,0 +1,15 @@
+-- `walks::siblings::child_among` meets its contract. The invariant: what is answered is what those from `at` on answer. Assumes nothing.
+use mathlib.Core.Path.{◌≡◌, sym, ap, ◌∙◌}
+use Prim.Native.Nat.{◌+◌, ◌-◌, ◌≤◌}
+use native.Mathlib.Omega.{arith}
+use borrow.Author.Rules.{rules}
+use Rattle.walks.specs.Rule.{lowest_by}
+use Rattle.walks.specs.Stands.{child_of}
+use Rattle.walks.proofs.Laws.Siblings.{among-start, among-here, among-past, among-end}
+use Rattle.walks.proofs.siblings.child_among.Given as goal
+
+abbrev pub invariant-loop-at : goal.invariant-loop-at
+invariant-loop-at l = (l.node ≤ l.at) × (1 ≤ l.at) × (lowest_by l.labels l.node (l.to - l.from) (l.from + 1) l.label ≡ lowest_by l.labels l.node (l.high - l.at) (l.at + 1) l.label)
+
+abbrev pub decreases-loop-at : goal.decreases-loop-at
+decreases-loop-at l = l.high - l.at

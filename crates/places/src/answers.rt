@@ -16,7 +16,7 @@ impl Place {
     // The root place, with a promise: a constant has none, so that without this nothing would say which number it has.
     pub fn root() -> Place
         ensures answer { result ≡ place_at 1 }
-        ensures* constant { do ⌜ (← (⟦Place::ROOT.node⟧).entry) ≡ 1 ⌝ }
+        ensures constant { Place.ROOT.node ≡ 1 }
     {
         Place::ROOT
     }

@@ -1,0 +1,80 @@
+-- `places::moves::go_down` meets its contract: the children that louds answers are those of the node's stand, the other calls are the definition's,
+-- and a glide has no more steps than there are nodes. Assumes nothing.
+use mathlib.Core.Path.{◌≡◌, sym, ap, ◌∙◌}
+use native.Mathlib.Omega.{arith}
+use lib.ListN.{length}
+use borrow.Author.Rules.{rules}
+use Rattle.keymap.specs.Bits.{bit}
+use Rattle.keymap.specs.Image.{Image, bits_for}
+use Rattle.louds.specs.declared.answers.Children.TheVariants.{Run}
+use Rattle.louds.specs.Nodes.{children_of}
+use Rattle.image.specs.Meaning.{image_in}
+use Rattle.walks.specs.declared.glide.Glided.{Glided}
+use Rattle.walks.specs.Glide.{only_kid, glided_from}
+use Rattle.walks.proofs.Laws.Stands.{held_of-value, held_of-none}
+use Rattle.places.specs.Moves.{stand_in, count_from}
+use Rattle.places.proofs.Laws.Moves.{children-lost, children-count, only-run, goto-leaf, goto-several, goto-key, goto-parting, glide-few}
+use Rattle.places.proofs.moves.go_down.Goals.{After-glide-g, After-kid_at-c, Else-count-gt1, In-Run, Start}
+use Rattle.places.proofs.moves.go_down.Goals as goal
+
+-- where the glide ends
+abbrev gone : Start → Glided
+gone start =
+    let b = bit start.args.words.now in
+    let len = bits_for (length start.args.labels.now) in
+    glided_from start.args.labels.now start.args.values.now b len (only_kid b len (stand_in (image_in c.args.labels c.args.values c.args.words) start.args.node))
+
+pub returns-in_default : goal.returns-in_default
+returns-in_default c =
+    let i = image_in c.args.labels c.args.values c.args.words in
+    sym (goto-leaf i c.args.node (children-lost i c.args.node (sym c.children.ensures ∙ c.in_default.is)))
+
+-- the children, of the node
+run : (c : In-Run)
+    → children_of (bit c.args.words.now) (bits_for (length c.args.labels.now)) c.args.node ≡ Run c.in-Run.first c.in-Run.count
+run c = sym c.children.ensures ∙ c.in-Run.is
+
+pub returns-then-count-eq0 : goal.returns-then-count-eq0
+returns-then-count-eq0 c =
+    sym (goto-leaf (image_in c.args.labels c.args.values c.args.words) c.args.node (omega (arith, (children-count (image_in c.args.labels c.args.values c.args.words) c.args.node _ _ (run (goal.at.returns-then-count-eq0 c).In-Run)).0)))
+
+pub returns-then-count-gt1 : goal.returns-then-count-gt1
+returns-then-count-gt1 c =
+    sym (goto-several (image_in c.args.labels c.args.values c.args.words) c.args.node (omega (arith, (children-count (image_in c.args.labels c.args.values c.args.words) c.args.node _ _ (run (goal.at.returns-then-count-gt1 c).In-Run)).0, c.if-count-gt1.true)))
+
+one : (c : Else-count-gt1) → count_from (image_in c.args.labels c.args.values c.args.words) (stand_in (image_in c.args.labels c.args.values c.args.words) c.args.node) ≡ 1
+one c = omega (arith, (children-count (image_in c.args.labels c.args.values c.args.words) c.args.node _ _ (run (goal.at.overflow_add-from c).In-Run)).0, c.if-count-gt1.false, c.if-count-eq0.false)
+
+pub overflow_add-from : goal.overflow_add-from
+overflow_add-from c = omega (arith, (children-count (image_in c.args.labels c.args.values c.args.words) c.args.node _ _ (run (goal.at.overflow_add-from c).In-Run)).1, c.if-count-eq0.false)
+
+-- the stand at it
+child : (c : After-kid_at-c)
+    → c.kid_at-c.result
+    ≡ only_kid (bit c.args.words.now) (bits_for (length c.args.labels.now)) (stand_in (image_in c.args.labels c.args.values c.args.words) c.args.node)
+child c =
+    let there = run (goal.at.glide-g-requires c).In-Run in
+    c.kid_at-c.ensures
+    ∙ only-run (image_in c.args.labels c.args.values c.args.words) c.args.node _ _ there (omega (arith, one (goal.at.glide-g-requires c).Else-count-gt1, (children-count (image_in c.args.labels c.args.values c.args.words) c.args.node _ _ there).0))
+
+glided : (c : After-glide-g) → c.glide-g.result ≡ gone c.before
+glided c =
+    let a = c.args in
+    c.glide-g.ensures ∙ ap (glided_from a.labels.now a.values.now (bit a.words.now) (bits_for (length a.labels.now))) (child c.before)
+
+pub overflow_add-distance : goal.overflow_add-distance
+overflow_add-distance c =
+    let a = c.args in
+    let few = glide-few a.labels.now a.values.now (bit a.words.now) (bits_for (length a.labels.now)) c.kid_at-c.result in
+    omega (arith, ap (λ (g : Glided). g.steps) c.glide-g.ensures, few, c.well_formed.0.1)
+
+pub returns-in-Value : goal.returns-in-Value
+returns-in-Value c =
+    goto-key (image_in c.args.labels c.args.values c.args.words) c.args.node (one (goal.at.returns-in-Value c).Else-count-gt1) _ (glided (goal.at.returns-in-Value c).After-glide-g) _ c.place_number.ensures _ (held_of-value _ _ (sym c.value_at.ensures ∙ c.in-Value.is))
+
+pub returns-in-NoValue : goal.returns-in-NoValue
+returns-in-NoValue c =
+    goto-parting (image_in c.args.labels c.args.values c.args.words) c.args.node (one (goal.at.returns-in-NoValue c).Else-count-gt1) _ (glided (goal.at.returns-in-NoValue c).After-glide-g) _ c.place_number-in-NoValue.ensures (held_of-none _ (sym c.value_at.ensures ∙ c.in-NoValue.is))
+
+pub glide-g-requires : goal.glide-g-requires
+glide-g-requires c = search rules

@@ -1,0 +1,108 @@
+use mathlib.Core.Path.{◌≡◌, sym, ap, ◌∙◌}
+use mathlib.Core.List.{[]}
+use mathlib.Core.Option.{Option, none, some}
+use Prim.Native.Nat.{ℕ, ◌+◌, ◌-◌, ◌≤◌}
+use native.Mathlib.Omega.{arith}
+use lib.ListN.{length, get_or, drop}
+use lib.Seq.{drop-length}
+use borrow.Author.Rules.{rules}
+use Rattle.keymap.specs.Bits.{bit}
+use Rattle.keymap.specs.Image.{Image, bits_for}
+use Rattle.keymap.proofs.Laws.Bits.{bit-small}
+use Rattle.image.specs.Meaning.{as_image, image_in}
+use Rattle.walks.specs.declared.stands.Stand.{Stand}
+use Rattle.walks.specs.declared.moves.Reached.{Reached}
+use Rattle.walks.specs.Rule.{child_by, value_of_node}
+use Rattle.walks.specs.Stands.{stand_at, down_from, reached_at}
+use Rattle.walks.proofs.Laws.Stands.{down_rule, ReachedTold, reached_at-to, reached_at-lost, held_of-value, held_of-none}
+use Rattle.searches.specs.CommonPrefixes.{unless_seen, or_further, shortest_from, match_of}
+use Rattle.searches.proofs.Laws.CommonPrefixes.{shortest-end, shortest-next, shortest-lost}
+use Rattle.searches.proofs.common_prefixes.shortest.Goals.{After-down, In-To}
+use Rattle.searches.proofs.common_prefixes.shortest.Goals as goal
+
+pub loop-depth-init : goal.loop-depth-init
+loop-depth-init c =
+    let a = c.args in
+    let told = c.stand_at-s.ensures in
+    let one : c.stand_at-s.result.node ≡ 1 = ap (λ (s : Stand). s.node) told in
+    (omega arith, told ∙ ap (stand_at (bit a.words.now) (bits_for (length a.labels.now))) (sym one), ap (λ k. shortest_from (image_in c.args.labels c.args.values c.args.words) a.seen a.query.now 0 (some k)) (sym one))
+
+-- what a step answers, by the rule
+step : (c : After-down) (t : Reached) → c.down.result ≡ t
+    → let a = c.args in
+    let b = bit a.words.now in
+    let len = bits_for (length a.labels.now) in
+    reached_at b len (child_by a.labels.now b len c.loop-depth.s.node (get_or a.query.now c.loop-depth.depth 0)) ≡ t
+step c t e =
+    let a = c.args in
+    let l = c.loop-depth in
+    let b = bit a.words.now in
+    let len = bits_for (length a.labels.now) in
+    let label = get_or a.query.now l.depth 0 in
+    sym (down_rule b (bit-small a.words.now) len a.labels.now l.s.node label)
+    ∙ ap (λ (s : Stand). down_from a.labels.now b len s label) (sym l.invariant.1)
+    ∙ sym c.down.ensures
+    ∙ e
+
+pub returns-in_default : goal.returns-in_default
+returns-in_default c =
+    let l = c.loop-depth in
+    let a = c.args in
+    let lost = reached_at-lost (bit a.words.now) (bits_for (length a.labels.now)) _ (step (goal.at.returns-in_default c).After-down _ c.in_default.is) in
+    sym (ap match_of (l.invariant.2 ∙ shortest-lost (image_in c.args.labels c.args.values c.args.words) a.seen a.query.now l.depth (some l.s.node) (omega arith) lost))
+
+-- where the step led, and what is found from there on
+there : (c : In-To)
+    → 
+    let a = c.args in
+    let b = bit a.words.now in
+    let len = bits_for (length a.labels.now) in
+    ReachedTold b len (child_by a.labels.now b len c.loop-depth.s.node (get_or a.query.now c.loop-depth.depth 0)) c.in-To.t
+there c =
+    let a = c.args in
+    reached_at-to (bit a.words.now) (bits_for (length a.labels.now)) _ _ (step (goal.at.enum_known-t c).After-down _ c.in-To.is)
+
+onward : (c : In-To)
+    → let l = c.loop-depth in
+    let a = c.args in
+    let node = c.in-To.t.node in
+    shortest_from (image_in c.args.labels c.args.values c.args.words) a.seen a.query.now 0 (some 1)
+    ≡ or_further (l.depth + 1) (unless_seen a.seen (l.depth + 1) (value_of_node a.labels.now a.values.now node))
+    (shortest_from (image_in c.args.labels c.args.values c.args.words) a.seen (drop (l.depth + 1) a.query.now) (l.depth + 1) (some node))
+onward c =
+    let l = c.loop-depth in
+    let a = c.args in
+    l.invariant.2 ∙ shortest-next (image_in c.args.labels c.args.values c.args.words) a.seen a.query.now l.depth (some l.s.node) (some c.in-To.t.node) (omega arith) (there c).node
+
+pub returns-in-Value : goal.returns-in-Value
+returns-in-Value c =
+    let l = c.loop-depth in
+    let a = c.args in
+    let node = c.in-To.t.node in
+    let held = held_of-value (unless_seen a.seen (l.depth + 1) (value_of_node a.labels.now a.values.now node)) _ (sym c.unseen_value.ensures ∙ c.in-Value.is) in
+    let further = shortest_from (image_in c.args.labels c.args.values c.args.words) a.seen (drop (l.depth + 1) a.query.now) (l.depth + 1) (some node) in
+    sym (ap match_of (onward (goal.at.returns-in-Value c).In-To ∙ ap (λ (o : Option ℕ). or_further (l.depth + 1) o further) held))
+
+pub loop-depth-preserved : goal.loop-depth-preserved
+loop-depth-preserved c =
+    let l = c.loop-depth in
+    let a = c.args in
+    let node = c.in-To.t.node in
+    let held = held_of-none (unless_seen a.seen (l.depth + 1) (value_of_node a.labels.now a.values.now node)) (sym c.unseen_value.ensures ∙ c.in-NoValue.is) in
+    let further = shortest_from (image_in c.args.labels c.args.values c.args.words) a.seen (drop (l.depth + 1) a.query.now) (l.depth + 1) (some node) in
+    (omega arith, (there (goal.at.loop-depth-preserved c).In-To).knows, onward (goal.at.loop-depth-preserved c).In-To ∙ ap (λ (o : Option ℕ). or_further (l.depth + 1) o further) held)
+
+pub returns : goal.returns
+returns c =
+    let l = c.loop-depth in
+    let a = c.args in
+    let end : l.depth ≡ length a.query.now = omega arith in
+    let rest : drop l.depth a.query.now ≡ [] = ap (λ n. drop n a.query.now) end ∙ drop-length a.query.now in
+    sym
+    (ap match_of
+    (l.invariant.2
+    ∙ ap (λ r. shortest_from (image_in c.args.labels c.args.values c.args.words) a.seen r l.depth (some l.s.node)) rest
+    ∙ shortest-end (image_in c.args.labels c.args.values c.args.words) a.seen l.depth (some l.s.node)))
+
+pub enum_known-t : goal.enum_known-t
+enum_known-t c = search rules

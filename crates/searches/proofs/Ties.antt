@@ -3,7 +3,7 @@
 use mathlib.Core.Path.{◌≡◌}
 use Rattle.keymap.specs.Contract.{Tells}
 use Rattle.keymap.specs.Answers.{answer_number}
-use Rattle.image.specs.Meaning.{image_in}
+use Rattle.image.specs.Meaning.{as_image, image_in}
 use Rattle.searches.specs.Answers.{said_looked, said_prefixed, said_longest, said_common}
 use Rattle.searches.specs.Exact.{exact_says, set_values, is_prefix_says}
 use Rattle.searches.specs.Prefix.{longest_says, longest_out}
@@ -38,7 +38,7 @@ exact-match-says κs a r s p = p
 pub exact-match-untested-says : Tells 4 exact-match-untested-kinds.ps exact-match-untested-kinds.r exact-match-untested-reads.Post (λ κs a r s. said_looked r ≡ untested_says (image_in a.0 a.1.0 a.1.1.0) a.1.1.1.0.now)
 exact-match-untested-says κs a r s p = p
 
-pub set-value-says : Tells 4 set-value-kinds.ps set-value-kinds.r set-value-reads.Post (λ κs a r s. (said_looked r ≡ exact_says (image_in a.0 a.1.0 a.1.1.0) a.1.1.1.0.now) × (s.1.0.now ≡ set_values (image_in a.0 a.1.0 a.1.1.0) a.1.1.1.0.now a.1.1.1.1.0))
+pub set-value-says : Tells 4 set-value-kinds.ps set-value-kinds.r set-value-reads.Post (λ κs a r s. (said_looked r ≡ exact_says (as_image a.0.now a.1.0.now a.1.1.0.now) a.1.1.1.0.now) × (s.1.0.now ≡ set_values (as_image a.0.now a.1.0.now a.1.1.0.now) a.1.1.1.0.now a.1.1.1.1.0))
 set-value-says κs a r s p = p
 
 pub is-prefix-says : Tells 4 is-prefix-kinds.ps is-prefix-kinds.r is-prefix-reads.Post (λ κs a r s. said_prefixed r ≡ is_prefix_says (image_in a.0 a.1.0 a.1.1.0) a.1.1.1.0.now)

@@ -2,7 +2,7 @@
 // `is_prefix`.
 // The image is tested before anything else, so a refused image answers NotAnImage for the empty query too.
 ghost use Rattle.std.specs.Prelude.{◌≡◌};
-ghost use Rattle.image.specs.Meaning.{lent_image};
+ghost use Rattle.image.specs.Meaning.{as_image, lent_image};
 ghost use Rattle.searches.specs.Answers.{said_looked, said_prefixed};
 ghost use Rattle.searches.specs.Exact.{keyed_in, goes_on, exact_says, set_values, is_prefix_says};
 
@@ -55,9 +55,9 @@ pub fn set_value(
     query: &[u8],
     value: u32,
 ) -> Looked
-    ensures answer { said_looked result ≡ exact_says (lent_image labels values words) query.now }
+    ensures answer { said_looked result ≡ exact_says (as_image labels.now values.old words.now) query.now }
     ensures written { values.new
-        ≡ set_values (lent_image labels values words) query.now value }
+        ≡ set_values (as_image labels.now values.old words.now) query.now value }
 {
     if !is_image(labels, values, words) {
         return Looked::NotAnImage;

@@ -17,7 +17,7 @@ use Rattle.walks.specs.Stands.{stand_at, down_from, reached_at}
 use Rattle.walks.proofs.Laws.Stands.{down_rule, ReachedTold, reached_at-to, reached_at-lost, held_of-value, held_of-none}
 use Rattle.searches.specs.CommonPrefixes.{unless_seen, or_further, shortest_from, match_of}
 use Rattle.searches.proofs.Laws.CommonPrefixes.{shortest-end, shortest-next, shortest-lost}
-use Rattle.searches.proofs.common_prefixes.shortest.Goals.{After-down, In-To}
+use Rattle.searches.proofs.common_prefixes.shortest.Goals.{In-loop-depth, In-To}
 use Rattle.searches.proofs.common_prefixes.shortest.Goals as goal
 
 pub loop-depth-init : goal.loop-depth-init
@@ -28,12 +28,14 @@ loop-depth-init c =
     (omega arith, told ∙ ap (stand_at (bit a.words.now) (bits_for (length a.labels.now))) (sym one), ap (λ k. shortest_from (image_in c.args.labels c.args.values c.args.words) a.seen a.query.now 0 (some k)) (sym one))
 
 -- what a step answers, by the rule
-step : (c : After-down) (t : Reached) → c.down.result ≡ t
+step : (c : In-loop-depth) (r t : Reached)
+    → r ≡ down_from c.args.labels.now (bit c.args.words.now) (bits_for (length c.args.labels.now)) c.loop-depth.s (get_or c.args.query.now c.loop-depth.depth 0)
+    → r ≡ t
     → let a = c.args in
     let b = bit a.words.now in
     let len = bits_for (length a.labels.now) in
     reached_at b len (child_by a.labels.now b len c.loop-depth.s.node (get_or a.query.now c.loop-depth.depth 0)) ≡ t
-step c t e =
+step c r t is e =
     let a = c.args in
     let l = c.loop-depth in
     let b = bit a.words.now in
@@ -41,26 +43,28 @@ step c t e =
     let label = get_or a.query.now l.depth 0 in
     sym (down_rule b (bit-small a.words.now) len a.labels.now l.s.node label)
     ∙ ap (λ (s : Stand). down_from a.labels.now b len s label) (sym l.invariant.1)
-    ∙ sym c.down.ensures
+    ∙ sym is
     ∙ e
+
+pub overflow_add-depth : goal.overflow_add-depth
+overflow_add-depth c = omega arith
 
 pub returns-in_default : goal.returns-in_default
 returns-in_default c =
     let l = c.loop-depth in
     let a = c.args in
-    let lost = reached_at-lost (bit a.words.now) (bits_for (length a.labels.now)) _ (step (goal.at.returns-in_default c).After-down _ c.in_default.is) in
+    let lost = reached_at-lost (bit a.words.now) (bits_for (length a.labels.now)) _ (step (goal.at.returns-in_default c).In-loop-depth _ _ c.down.ensures c.in_default.is) in
     sym (ap match_of (l.invariant.2 ∙ shortest-lost (image_in c.args.labels c.args.values c.args.words) a.seen a.query.now l.depth (some l.s.node) (omega arith) lost))
 
 -- where the step led, and what is found from there on
 there : (c : In-To)
-    → 
-    let a = c.args in
+    → let a = c.args in
     let b = bit a.words.now in
     let len = bits_for (length a.labels.now) in
     ReachedTold b len (child_by a.labels.now b len c.loop-depth.s.node (get_or a.query.now c.loop-depth.depth 0)) c.in-To.t
 there c =
     let a = c.args in
-    reached_at-to (bit a.words.now) (bits_for (length a.labels.now)) _ _ (step (goal.at.enum_known-t c).After-down _ c.in-To.is)
+    reached_at-to (bit a.words.now) (bits_for (length a.labels.now)) _ _ (step (goal.at.overflow_add-depth c).In-loop-depth _ _ c.down.ensures c.in-To.is)
 
 onward : (c : In-To)
     → let l = c.loop-depth in
@@ -103,6 +107,3 @@ returns c =
     (l.invariant.2
     ∙ ap (λ r. shortest_from (image_in c.args.labels c.args.values c.args.words) a.seen r l.depth (some l.s.node)) rest
     ∙ shortest-end (image_in c.args.labels c.args.values c.args.words) a.seen l.depth (some l.s.node)))
-
-pub enum_known-t : goal.enum_known-t
-enum_known-t c = search rules

@@ -8,7 +8,7 @@ use borrow.Author.Rules.{rules}
 use borrow.Author.Tests.{not-true, not-false}
 use Rattle.keymap.specs.Image.{Image}
 use Rattle.image.specs.AcceptTest.{image_test}
-use Rattle.image.specs.Meaning.{image_in, MapImage}
+use Rattle.image.specs.Meaning.{as_image, MapImage}
 use Rattle.image.proofs.Laws.Meaning.{tested-map_image}
 use Rattle.keymap.specs.Answers.{says_value}
 use Rattle.walks.proofs.Laws.MapWalk.{value-rule}
@@ -18,23 +18,23 @@ use Rattle.searches.proofs.exact.set_value.Goals as goal
 
 pub returns-then-not-is_image : goal.returns-then-not-is_image
 returns-then-not-is_image c =
-    let i = image_in c.args.labels c.args.values c.args.words in
+    let i = as_image c.args.labels.now c.args.values.now c.args.words.now in
     let q = c.args.query.now in
     let refused = sym c.is_image.ensures ∙ c.if-not-is_image.true in record { answer = sym (exact_says-refused i q refused); written = sym (set_values-refused i q refused c.args.value) }
 
 -- past the test the image is a map's
-tested : (c : Else-not-is_image) → image_test (image_in c.args.labels c.args.values c.args.words) ≡ true
+tested : (c : Else-not-is_image) → image_test (as_image c.args.labels.now c.args.values.now c.args.words.now) ≡ true
 tested c = sym c.is_image.ensures ∙ c.if-not-is_image.false
 
-whole : (c : Else-not-is_image) → MapImage (image_in c.args.labels c.args.values c.args.words)
+whole : (c : Else-not-is_image) → MapImage (as_image c.args.labels.now c.args.values.now c.args.words.now)
 whole c =
-    tested-map_image (image_in c.args.labels c.args.values c.args.words)
-    (record { words-wide = λ w. (c.type_inv.words w).fits; values-wide = λ e. (c.type_inv.values e).fits })
+    tested-map_image (as_image c.args.labels.now c.args.values.now c.args.words.now)
+    (record { words-wide = λ w. (c.type_inv.words w).fits; values-wide = λ e. (c.slice_known-1.given e).fits })
     (tested c)
 
 pub returns-in_default : goal.returns-in_default
 returns-in_default c =
-    let i = image_in c.args.labels c.args.values c.args.words in
+    let i = as_image c.args.labels.now c.args.values.now c.args.words.now in
     let q = c.args.query.now in
     let accepted = tested (goal.at.returns-in_default c).Else-not-is_image in
     let absent = sym (value-rule i (whole (goal.at.returns-in_default c).Else-not-is_image) q) ∙ keyed-missed i q (sym c.find.ensures ∙ c.in_default.is) in record { answer = sym (exact_says-accepted i q accepted ∙ ap says_value absent); written = sym (set_values-absent i q accepted c.args.value absent) }
@@ -42,7 +42,7 @@ returns-in_default c =
 -- the key that was found
 found : (c : In-At)
     → 
-    Found (image_in c.args.labels c.args.values c.args.words) c.args.query.now c.in-At.node c.in-At.old
+    Found (as_image c.args.labels.now c.args.values.now c.args.words.now) c.args.query.now c.in-At.node c.in-At.old
 found c = keyed-found _ _ _ _ (sym c.find.ensures ∙ c.in-At.is)
 
 pub overflow_sub-values : goal.overflow_sub-values
@@ -56,7 +56,7 @@ bounds-values-node c = omega (arith, found_inside _ _ _ _ (found c))
 
 pub returns : goal.returns
 returns c =
-    let i = image_in c.args.labels c.args.values c.args.words in
+    let i = as_image c.args.labels.now c.args.values.now c.args.words.now in
     let q = c.args.query.now in
     let v = c.args.value in
     let accepted = tested (goal.at.returns c).Else-not-is_image in

@@ -8,7 +8,7 @@
 -- Assumes nothing.
 use Rattle.std.specs.Prelude.{◌≡◌, cond, List, [], ℕ, length, ltb}
 use Rattle.std.proofs.Math.Option.{Option, none, some}
-use Rattle.std.specs.Borrow.{Bor}
+use Rattle.std.specs.Borrow.{Bor, MutBor}
 use denote.Triple.Both.{Both}
 use Rattle.keymap.specs.Buffers.{over}
 use Rattle.records.specs.Words.{Pool}
@@ -30,7 +30,7 @@ built_pool none p = []
 built_pool (some text) p = cond (accepted (text_says program_capacity text)) (fill_pool p text) []
 
 -- the same, of a file's bytes and a pool as they were lent to a call
-abbrev pub built_from : {X Y : Type 0} → Reading → Both (Bor (List ℕ)) X → Both (Bor (List ℕ)) Y → Pool
+abbrev pub built_from : {X Y : Type 0} → Reading → Both (Bor (List ℕ)) X → Both (MutBor (List ℕ)) Y → Pool
 built_from reading text pool = built_pool (what_read reading text.entry.now) pool.entry.now
 
 -- the number of bytes, the buffer they are put into, the pool and the buffers of the build

@@ -23,8 +23,8 @@ pub fn list_pool(
     scratch: &mut [u32],
     out: &mut [u8],
 ) -> usize
-    requires scratch_value { accepted (build_says pool.now labels.old values.old words.old scratch.old) ≡ true }
-    requires pool_in_bounds { length (map_text (pool_map pool.now)) ≤ length out.old }
+    requires granted { accepted (build_says pool.now labels.old values.old words.old scratch.old) ≡ true }
+    requires room { length (map_text (pool_map pool.now)) ≤ length out.old }
     ensures answer { result ≡ length (map_text (pool_map pool.now)) }
     ensures out { out.new ≡ over (map_text (pool_map pool.now)) out.old }
     ensures labels { labels.new ≡ of_lent (build_labels pool.now) labels values words scratch }
@@ -47,8 +47,8 @@ pub fn list_pool(
 // Puts the listing of an image's map at the start of a buffer that holds it, each key straight behind the line before;
 // answers its length.
 fn list_image(labels: &[u16], values: &[u32], words: &[u64], out: &mut [u8]) -> usize
-    requires map_image { MapImage (image_in labels values words) }
-    requires words_in_bounds { length (map_text (image_map (image_in labels values words))) ≤ length out.old }
+    requires of_map { MapImage (image_in labels values words) }
+    requires room { length (map_text (image_map (image_in labels values words))) ≤ length out.old }
     ensures answer { result ≡ length (map_text (image_map (lent_image labels values words))) }
     ensures out { out.new ≡ over (map_text (image_map (lent_image labels values words))) out.old }
 {

@@ -9,12 +9,12 @@
 --     near-beyond                a word behind the end has no zero
 -- Assumes nothing.
 use mathlib.Core.Path.{◌≡◌, refl, sym, ap, ap₂, ◌∙◌, subst}
-use Prim.Native.Nat.{ℕ, zero, suc, ◌+◌, ◌-◌, ◌*◌, ◌/◌, ◌%◌, ◌^◌, ◌≤◌, ◌<◌}
+use Prim.Native.Nat.{ℕ, suc, ◌+◌, ◌-◌, ◌*◌, ◌/◌, ◌%◌, ◌^◌, ◌≤◌, ◌<◌}
 use native.Mathlib.Nat.{mod-eq_of_lt}
 use native.Mathlib.Decide.{dec_le}
 use native.Mathlib.Omega.{arith}
 use mathlib.Core.List.{List}
-use mathlib.Core.Option.{none, some}
+use mathlib.Core.Option.{some}
 use lib.Dec.{lit<}
 use lib.ListN.{get_or, drop}
 use lib.Bits.{bit_and}
@@ -48,7 +48,7 @@ use Rattle.walks.specs.Rule.{lowest_by, child_by, walked_from, walked}
 use Rattle.walks.specs.Stands.{stand_at, down_along, reached_at}
 use Rattle.descents.specs.Far.{zeros_up_to, zero_bits, PassedFrom, OwnSums, Ready, HasZero, ZeroWord, stand_near, went_on}
 use Rattle.walks.proofs.Laws.Stands.{zero-near, along-rule}
-use Rattle.walks.proofs.Laws.Rule.{child_by-run, found}
+use Rattle.walks.proofs.Laws.Rule.{child_by-run}
 
 -- ---- words
 

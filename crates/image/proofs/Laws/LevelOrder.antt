@@ -22,7 +22,6 @@ use native.Mathlib.Omega.{arith}
 use native.Mathlib.Numerals.{add-one}
 use lib.ListN.{length, get_or, take, drop, length-append, take-append-drop, get_or-append}
 use lib.Seq.{append_snoc, take-suc, take_all}
-use lib.Dec.{eqb}
 use borrow.Author.Tests.{eq-eqb, ne_eqb}
 use Rattle.keymap.proofs.Laws.Children.{flat_map-append}
 use Rattle.records.specs.Words.{Pool, first_child, next_sibling, parent, used_count, InUse, Node}

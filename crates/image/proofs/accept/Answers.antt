@@ -1,7 +1,5 @@
 -- `image::accept` meets its contract: it answers what the image test says, and so 0 exactly if some map has the image. Assumes nothing.
 use mathlib.Core.Path.{sym, ◌∙◌}
-use borrow.Author.Rules.{rules}
-use borrow.Author.Tests.{not-true, not-false}
 use Rattle.image.specs.declared.answers.Checked.{Checked}
 use Rattle.image.specs.Accept.{LentSlices}
 use Rattle.image.specs.Meaning.{image_in}

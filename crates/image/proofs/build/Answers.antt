@@ -2,10 +2,7 @@
 -- leave what is to be left. Assumes nothing.
 use Prim.Native.Nat.{◌≤◌}
 use mathlib.Core.Path.{◌≡◌, refl, sym, ◌∙◌}
-use mathlib.Core.Bool.{true, false}
 use lib.ListN.{length}
-use borrow.Author.Tests.{not-true, not-false}
-use borrow.Author.Rules.{rules}
 use Rattle.keymap.specs.Bits.{words_for}
 use Rattle.keymap.specs.Image.{bits_for}
 use Rattle.records.specs.Sound.{Sound}

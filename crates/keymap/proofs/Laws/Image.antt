@@ -17,9 +17,9 @@ use Rattle.keymap.specs.Limits.{byte_limit}
 use Rattle.keymap.specs.Key.{Key, Bytes}
 use Rattle.keymap.specs.Map.{Map, Proper, Catalogue}
 use Rattle.keymap.specs.Prefixes.{prefixes}
-use Rattle.keymap.specs.Bits.{pack, unpack}
-use Rattle.keymap.specs.Degrees.{total, sequence, degrees_from}
-use Rattle.keymap.specs.Image.{Image, bits_for, image_bits, image_labels, image_values, image}
+use Rattle.keymap.specs.Bits.{unpack}
+use Rattle.keymap.specs.Degrees.{total, degrees_from}
+use Rattle.keymap.specs.Image.{bits_for, image_bits, image_labels, image_values, image}
 use Rattle.keymap.specs.Forest.{Forest, empty, node, Tree, bare, alter, grow, tree_of, list_tree, ByteLabels, size, width, join}
 use Rattle.keymap.specs.BreadthFirst.{Row, visit, rows, row_label, row_value, row_degree, forest_bits, forest_image}
 use Rattle.keymap.specs.Decode.{rebuild, row_of, rows_from, degrees_in, rows_in, decode, image_map}

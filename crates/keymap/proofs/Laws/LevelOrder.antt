@@ -6,7 +6,7 @@
 --     image-forest       the image of a map is the image of its trie
 -- Assumes nothing.
 use mathlib.Core.Path.{◌≡◌, refl, sym, ap, ap₂, ◌∙◌}
-use Prim.Native.Nat.{ℕ, suc, ◌+◌}
+use Prim.Native.Nat.{ℕ, suc}
 use mathlib.Core.List.{List, [], ◌∷◌, ◌++◌, map, map-append, map-map, flat_map}
 use mathlib.Core.Option.{Option, none}
 use lib.ListN.{length, length-map}
@@ -16,8 +16,8 @@ use Rattle.keymap.specs.Prefixes.{prefixes}
 use Rattle.keymap.specs.Label.{label_entry, value_word}
 use Rattle.keymap.specs.Bits.{pack}
 use Rattle.keymap.specs.Degrees.{sequence}
-use Rattle.keymap.specs.Image.{Image, degree, image_bits, image_labels, image_values, image}
-use Rattle.keymap.specs.Forest.{Forest, empty, node, Tree, branch, descend, value_at, list_forest, list_tree, Orderly, size, width, tree_of}
+use Rattle.keymap.specs.Image.{degree, image_bits, image_labels, image_values, image}
+use Rattle.keymap.specs.Forest.{Forest, empty, node, Tree, descend, list_forest, list_tree, Orderly, size, width, tree_of}
 use Rattle.keymap.specs.BreadthFirst.{Row, rows, row_label, row_value, row_degree, forest_bits, forest_image}
 use Rattle.keymap.proofs.Laws.Forest.{descend-append, descend-orderly, value_at-descend}
 use Rattle.keymap.proofs.Laws.Key.{last_byte-append}

@@ -10,12 +10,12 @@
 --     list_forest-tree_of     a catalogue to its forest and back
 -- Assumes nothing.
 use mathlib.Core.Path.{◌≡◌, refl, sym, ap, ◌∙◌}
-use Prim.Native.Nat.{ℕ, ◌+◌, ◌<◌, compare, Ordering}
+use Prim.Native.Nat.{ℕ, ◌<◌, compare, Ordering}
 use mathlib.Core.List.{[], ◌∷◌, ◌++◌, map}
 use mathlib.Core.Option.{Option, none, some}
 use Rattle.keymap.specs.Key.{Key, compare_keys}
-use Rattle.keymap.specs.Map.{Entry, Map, Before, Rising, Proper, Catalogue, insert, lookup}
-use Rattle.keymap.specs.Forest.{Forest, empty, node, Tree, bare, branch, grow, value_at, tree_of, own_entry, behind_label, list_forest, list_tree, Above, Live, Orderly}
+use Rattle.keymap.specs.Map.{Map, Before, Rising, Proper, Catalogue, insert, lookup}
+use Rattle.keymap.specs.Forest.{Forest, empty, node, Tree, branch, grow, value_at, tree_of, own_entry, behind_label, list_forest, list_tree, Above, Live, Orderly}
 use Rattle.keymap.proofs.Laws.Key.{Order, order, compare-lt, compare_refl}
 use Rattle.keymap.proofs.Laws.Map.{dec_key, insert-rising, lookup-insert-same, lookup-insert-other, map-ext}
 use Rattle.keymap.proofs.Laws.Forest.{above-weak, branch-above, value_at-bare, value_at-grow-same, value_at-grow-other, grow-orderly, tree-ext}

@@ -15,7 +15,7 @@
 use mathlib.Core.Path.{◌≡◌, refl, sym, ap, ◌∙◌}
 use Prim.Native.Nat.{ℕ, ◌<◌, Ordering}
 use mathlib.Core.List.Memᴰ
-use mathlib.Core.List.{List, [], ◌∷◌, ◌++◌, append_assoc, append-nil, List-discrete}
+use mathlib.Core.List.{[], ◌∷◌, ◌++◌, append_assoc, append-nil, List-discrete}
 use native.Mathlib.Decide.{ℕ_discrete}
 use mathlib.Core.Option.{none, some, Option, none-ne-some, some-injective}
 use Rattle.keymap.specs.Limits.{value_limit}

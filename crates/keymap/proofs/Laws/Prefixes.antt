@@ -22,7 +22,7 @@ use lib.ListN.{length, take, length-append, length-take, length-map}
 use lib.Dec.{leb}
 use borrow.Author.Tests.{leb-true, leb-false, not-true}
 use Rattle.keymap.specs.Members.{In, here, there, Ordered, Distinct}
-use Rattle.keymap.specs.Key.{Key, compare_keys, Below, PrefixOf}
+use Rattle.keymap.specs.Key.{Key, Below, PrefixOf}
 use Rattle.keymap.specs.Map.{Entry, Map, Rising, insert, lookup}
 use Rattle.keymap.specs.Queries.{keep, nonempty, beginning, SomeBegins}
 use Rattle.keymap.specs.Prefixes.{once, level, deepest, levels, prefixes, Earlier, prefixes_of, missing}

@@ -13,12 +13,12 @@
 -- Assumes nothing.
 use mathlib.Core.Path.{◌≡◌, refl, sym, ap, subst, ◌∙◌}
 use mathlib.Core.Logic.{◌↔◌, ◌⊎◌, inl, inr}
-use Prim.Native.Nat.{ℕ, suc, ◌+◌, ◌<◌}
+use Prim.Native.Nat.{ℕ, suc, ◌<◌}
 use native.Mathlib.Omega.{arith}
 use mathlib.Core.List.{List, [], ◌∷◌, ◌++◌, head?, append_assoc, append-nil, cons-ne-nil}
 use mathlib.Core.Option.{Option, none, some}
 use lib.ListN.{length, get_or, length-append}
-use Rattle.keymap.specs.Members.{In, here, Ordered}
+use Rattle.keymap.specs.Members.{In, Ordered}
 use Rattle.keymap.specs.Key.{Key, compare_keys, Below, is_below, begins_with, PrefixOf, last_byte}
 use Rattle.keymap.specs.Map.{Entry, Map, Rising, lookup}
 use Rattle.keymap.specs.Queries.{keep, SomeBegins, beginning, longer, least_above, NextAfter}

@@ -10,7 +10,7 @@ use Prim.Native.Nat.{ℕ, suc, ◌-◌}
 use native.Mathlib.Omega.{arith}
 use mathlib.Core.List.Memᴰ
 use mathlib.Core.List.{List, [], ◌∷◌, map}
-use mathlib.Core.Option.{some, none, none-ne-some}
+use mathlib.Core.Option.{some, none-ne-some}
 use lib.ListN.{length, set}
 use Rattle.keymap.specs.Members.{In, here, there, Distinct}
 use Rattle.keymap.specs.Key.{Key, begins_with, Below, last_byte}

@@ -17,7 +17,6 @@ use lib.ListN.{length, take}
 use lib.Seq.{length-take-le, take-append_seam, drop-append-add}
 use lib.Dec.{ltb}
 use borrow.Author.Tests.{lt-ltb, le-ltb, ltb-true, not-true}
-use Rattle.keymap.specs.Key.{Key}
 use Rattle.keymap.specs.Map.{Entry}
 use Rattle.keymap.specs.Refusals.{Refusal, refuses}
 use Rattle.keymap.proofs.Laws.Begins.{both_true}

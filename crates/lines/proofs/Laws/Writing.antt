@@ -9,15 +9,15 @@
 -- Assumes nothing.
 use mathlib.Core.Path.{◌≡◌, refl, ap, ◌∙◌}
 use mathlib.Core.Logic.{◌↔◌}
-use Prim.Native.Nat.{ℕ, ◌+◌, ◌≤◌, ◌<◌}
+use Prim.Native.Nat.{ℕ, ◌+◌}
 use mathlib.Core.Bool.{false}
 use mathlib.Core.List.{List, [], ◌∷◌, ◌++◌, map, append_assoc}
 use mathlib.Core.Option.{some}
 use native.Mathlib.Omega.{arith}
 use lib.ListN.{length, length-append}
 use Rattle.keymap.specs.Map.{Entry}
-use Rattle.lines.specs.Bytes.{tab, line_feed, holds, stretch}
-use Rattle.lines.specs.Decimal.{decimal, number_in}
+use Rattle.lines.specs.Bytes.{tab, line_feed, holds}
+use Rattle.lines.specs.Decimal.{decimal}
 use Rattle.lines.specs.TabLine.{key_part, number_part, tab_entry}
 use Rattle.lines.specs.Text.{lines_of, entry_lines, entries_of}
 use Rattle.lines.specs.Writing.{tab_line, tab_text, map_text, Plain, AllPlain}

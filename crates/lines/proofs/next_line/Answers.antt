@@ -4,7 +4,6 @@ use mathlib.Core.List.{List, [], ◌∷◌}
 use Prim.Native.Nat.{ℕ, suc, ◌+◌, ◌<◌, min}
 use native.Mathlib.Omega.{arith}
 use lib.ListN.{length, drop, length-drop}
-use borrow.Author.Rules.{rules}
 use Rattle.lines.specs.Bytes.{line_feed, stretch}
 use Rattle.lines.specs.Text.{next_line_says}
 use Rattle.lines.proofs.Laws.Bytes.{stretch-within}

@@ -7,7 +7,6 @@ use native.Mathlib.Numerals.{add-one}
 use native.Mathlib.Omega.{arith}
 use lib.ListN.{length, take, drop, length-drop}
 use lib.Seq.{take_all}
-use borrow.Author.Rules.{rules}
 use Rattle.lines.specs.Bytes.{tab, line_feed, stretch}
 use Rattle.lines.specs.Decimal.{number_in}
 use Rattle.lines.specs.Numerals.{spelled}
@@ -41,14 +40,12 @@ returns-then-find-tab c = refused _ (tab_entry-lf _ (omega arith))
 
 pub returns-in-Number : goal.returns-in-Number
 returns-in-Number c =
-    
     entered _ _ _ c.find-tab.ensures
     (decided _ _ _ _ c.find-tab.ensures c.if-line-tab.false c.find.ensures c.if-find-tab.false
     (ap spelled (sym c.in-Number.is) ∙ c.number_in.ensures))
 
 pub returns-in-Broken : goal.returns-in-Broken
 returns-in-Broken c =
-    
     refused _
     (decided _ _ _ _ c.find-tab.ensures c.if-line-tab.false c.find.ensures c.if-find-tab.false
     (ap spelled (sym c.in-Broken.is) ∙ c.number_in.ensures))

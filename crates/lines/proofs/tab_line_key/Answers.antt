@@ -1,8 +1,6 @@
 -- `lines::tab_line_key` meets its contract: the length that `tab_line` answers is that of the key, which leads the line; a part of no bytes begins there too. Assumes nothing.
 use mathlib.Core.Path.{refl, sym, ap, ◌∙◌}
-use lib.ListN.{length, take}
 use lib.Seq.{length-take-le}
-use borrow.Author.Rules.{rules}
 use Rattle.lines.specs.Answers.{said_parsed}
 use Rattle.lines.proofs.Laws.TabLine.{tab_line_key-none, tab_line_key-some}
 use Rattle.lines.proofs.tab_line_key.Goals as goal

@@ -6,8 +6,8 @@
 --     children-pack       the same of the words of a sequence
 --
 -- Assumes nothing.
-use Rattle.std.proofs.Common.{◌≡◌, ℕ, zero, suc, ◌+◌, ◌-◌, ◌<◌, ◌≤◌, List, [], ◌∷◌, length, get_or, take, sym, refl, ap, ◌∙◌, ap₂, le_of_suc-le-suc, not-suc-le-zero, le_of_lt, add-one, arith}
-use Rattle.keymap.specs.Bits.{bit, sum_below, pack}
+use Rattle.std.proofs.Common.{◌≡◌, ℕ, zero, suc, ◌+◌, ◌<◌, ◌≤◌, List, [], ◌∷◌, length, get_or, take, sym, refl, ap, ◌∙◌, ap₂, le_of_suc-le-suc, not-suc-le-zero, le_of_lt, add-one, arith}
+use Rattle.keymap.specs.Bits.{bit, pack}
 use Rattle.keymap.specs.Degrees.{unary, total, sequence}
 use Rattle.keymap.proofs.Laws.Sums.{sum_below-zero, sum_below-suc, sum_below-first, sum_below-add, sum_below-ext, sum_below-none, in_list}
 use Rattle.keymap.proofs.Laws.Bits.{bit-pack}
@@ -15,7 +15,7 @@ use Rattle.keymap.proofs.Laws.Degrees.{sequence-unary, unary-one, unary-past, se
 use Rattle.louds.specs.declared.answers.Spot.TheVariants.{At}
 use Rattle.louds.specs.declared.answers.Children.TheVariants.{Run}
 use Rattle.louds.specs.Rank.{gap, zeros_before}
-use Rattle.louds.specs.Select.{kth, zero_at}
+use Rattle.louds.specs.Select.{zero_at}
 use Rattle.louds.specs.Nodes.{children_of}
 use Rattle.louds.proofs.Laws.Rank.{gap-one, gap-zero, gap-ext, gap-small}
 use Rattle.louds.proofs.Laws.Select.{kth-rank}

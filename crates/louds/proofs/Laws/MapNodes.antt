@@ -21,7 +21,6 @@ use Rattle.keymap.proofs.Laws.Bits.{bit-small}
 use Rattle.keymap.proofs.Laws.Degrees.{total-take}
 use Rattle.keymap.proofs.Laws.Image.{length-image_bits}
 use Rattle.keymap.proofs.Laws.Paths.{degree_at, get_d_map, index_of-in, path_of-child, children-room, children_in-iff, node_of-node, path_of-node_of, node_of-path_of}
-use Rattle.louds.specs.declared.answers.Spot.TheVariants.{At}
 use Rattle.louds.specs.declared.answers.Children.TheVariants.{Run}
 use Rattle.louds.specs.declared.answers.Up.TheVariants.{Node}
 use Rattle.louds.specs.Nodes.{children_of, parent_of}

@@ -20,7 +20,6 @@
 --
 -- Assumes nothing.
 use Rattle.std.proofs.Common.{◌≡◌, ℕ, ◌+◌, ◌-◌, ◌<◌, ◌≤◌, ◌⊎◌, ◌↔◌, sym, refl, ap, ◌∙◌, subst, ap₂, inl, inr, ⊎_elim, le_trans, le_refl, le_of_lt, eq-or-lt_of_le, lt_of_not-le, arith}
-use Rattle.keymap.specs.Bits.{sum_below}
 use Rattle.keymap.proofs.Laws.Sums.{sum_below-next, sum_below-mono, sum_below-lt, sum_below-ext}
 use Rattle.louds.specs.declared.answers.Spot.{Spot}
 use Rattle.louds.specs.declared.answers.Spot.TheVariants.{At, Missing}

@@ -7,7 +7,7 @@
 --     with_one-lt          words below 2^64 stay so
 --
 -- Assumes nothing.
-use Rattle.std.proofs.Common.{◌≡◌, ℕ, zero, suc, ◌+◌, ◌-◌, ◌/◌, ◌%◌, ◌^◌, ◌<◌, ◌≤◌, List, length, get_or, set, sym, refl, ap, ◌∙◌, le_of_suc-le-suc, not-suc-le-zero, mod-lt, zero-lt-suc, pow-suc, arith, lit<, length-set, get_or-set_other, get_or-set_same, pow_pos, pow-add}
+use Rattle.std.proofs.Common.{◌≡◌, ℕ, zero, suc, ◌+◌, ◌-◌, ◌/◌, ◌%◌, ◌^◌, ◌<◌, ◌≤◌, List, length, get_or, sym, refl, ap, ◌∙◌, le_of_suc-le-suc, not-suc-le-zero, mod-lt, zero-lt-suc, pow-suc, arith, lit<, length-set, get_or-set_other, get_or-set_same, pow_pos, pow-add}
 use native.Mathlib.Nat.{div_self, div-eq_of_lt, mul-mod_left}
 use native.Mathlib.Decide.{dec_le, dec_lt, ℕ_discrete}
 use lib.Seq.{set_out}

@@ -8,7 +8,7 @@
 --     room-means-prefixes   there is room exactly if the map with the key has no more distinct nonempty prefixes than capacity
 --     present-accepted      a key that is present is accepted, also in a full pool
 -- Assumes nothing.
-use Prim.Native.Nat.{ℕ, ◌+◌, ◌-◌, ◌≤◌}
+use Prim.Native.Nat.{ℕ, ◌+◌, ◌≤◌}
 use mathlib.Core.Path.{◌≡◌, refl, sym, ◌∙◌, ap, subst}
 use mathlib.Core.Bool.{true, false}
 use mathlib.Core.List.{[], ◌∷◌, ◌++◌, append_assoc, append-nil}

@@ -1,7 +1,5 @@
 -- `pool::push` meets its contract: at each return the tests that led there say which case of `push_says` holds. Assumes nothing.
 use mathlib.Core.Path.{refl, sym, ◌∙◌}
-use borrow.Author.Tests.{not-true, not-false}
-use borrow.Author.Rules.{rules}
 use Rattle.pool.specs.declared.answers.Pushed.{Pushed}
 use Rattle.pool.proofs.Laws.Push.{push-small, push-unsound, push-tested, push-refused, push-left}
 use Rattle.pool.proofs.push.Goals as goal

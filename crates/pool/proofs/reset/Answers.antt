@@ -1,6 +1,5 @@
 -- `pool::reset` meets its contract: the test says which case of reset holds. Assumes nothing.
 use mathlib.Core.Path.{◌∙◌}
-use borrow.Author.Rules.{rules}
 use Rattle.pool.proofs.Laws.Reset.{reset-small, reset-done}
 use Rattle.pool.proofs.reset.Goals as goal
 

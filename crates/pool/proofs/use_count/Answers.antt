@@ -2,8 +2,6 @@
 use Prim.Native.Nat.{ℕ}
 use mathlib.Core.List.{[], ◌∷◌}
 use mathlib.Core.Path.{sym, ◌∙◌, ap}
-use borrow.Author.Tests.{not-true, not-false}
-use borrow.Author.Rules.{rules}
 use Rattle.pool.proofs.Laws.UseCount.{use-count-small, use-count-unsound, use-count-sound}
 use Rattle.pool.proofs.use_count.Goals as goal
 

@@ -24,7 +24,7 @@ use Rattle.keymap.specs.Key.{Key, last_byte}
 use Rattle.keymap.specs.Limits.{byte_limit}
 use Rattle.keymap.specs.Map.{Map, lookup}
 use Rattle.keymap.specs.Queries.{SomeBegins}
-use Rattle.keymap.specs.Label.{mark, label_in, label_entry, value_in}
+use Rattle.keymap.specs.Label.{mark, label_in, value_in}
 use Rattle.keymap.specs.Bits.{bit}
 use Rattle.keymap.specs.Image.{Image, bits_for, children_in, degree}
 use Rattle.keymap.specs.Paths.{nodes, IsNode, path_of, index_of, node_of, is_path}
@@ -38,7 +38,7 @@ use Rattle.keymap.proofs.Laws.Paths.{index_of-in, path_of-root, path_of-in, path
 use Rattle.louds.proofs.Laws.MapNodes.{ChildrenOf, children-node}
 use Rattle.image.specs.Accept.{entries}
 use Rattle.image.specs.Meaning.{MapImage}
-use Rattle.walks.specs.Rule.{is_child_by, lowest_by, child_by, step_by, walked_from, walked, value_of_node, value_at_end, node_by, found_by}
+use Rattle.walks.specs.Rule.{is_child_by, lowest_by, child_by, step_by, walked_from, value_of_node, value_at_end, node_by, found_by}
 use Rattle.walks.specs.MapNodes.{node_at}
 use Rattle.walks.proofs.Laws.Rule.{FoundChild, is_child_by-told, is_child_by-is, LowestTold, found, missed, lowest-told, child_by-run, walked_from-end, walked_from-step, value_of_node-root, value_of_node-plain, value_of_node-held}
 use Rattle.walks.proofs.Laws.MapImage.{length-nodes, length-values, entry-node, value-node, run-node}

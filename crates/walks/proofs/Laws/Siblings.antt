@@ -17,9 +17,6 @@ use lib.Dec.{eqb, lit<}
 use lib.ListN.{length, get_or}
 use lib.Bits.{bit_and, and_block, and_high, and_mask}
 use borrow.Author.Tests.{ne_eqb}
-use Rattle.keymap.specs.Bits.{bit}
-use Rattle.louds.specs.Digits.{above}
-use Rattle.walks.specs.declared.moves.Reached.TheVariants.{To}
 use Rattle.walks.specs.Rule.{matches, is_child_by, lowest_by}
 use Rattle.walks.proofs.Laws.Rule.{matches-large, matches-small, is_child_by-root, is_child_by-low, is_child_by-entry, lowest_by-end, lowest_by-here, lowest_by-past, lowest_by-late, is_child_by-told, LowestTold, found, missed, lowest-told}
 

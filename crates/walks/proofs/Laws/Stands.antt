@@ -27,7 +27,7 @@ use Rattle.louds.specs.declared.answers.Spot.{Spot}
 use Rattle.louds.specs.declared.answers.Spot.TheVariants.{At, Missing}
 use Rattle.louds.specs.declared.answers.Children.TheVariants.{Run, NoNode}
 use Rattle.louds.specs.Rank.{gap}
-use Rattle.louds.specs.Select.{kth, onward, zero_at, zero_from}
+use Rattle.louds.specs.Select.{onward, zero_at, zero_from}
 use Rattle.louds.specs.Nodes.{or_end, children_of}
 use Rattle.louds.proofs.Laws.Rank.{gap-small, ones-zeros}
 use Rattle.louds.proofs.Laws.Select.{Stands, kth-zero, kth-told, onward-before, rank-kth, kth-missing, kth-next, kth-onward}

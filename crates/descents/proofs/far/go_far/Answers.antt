@@ -1,7 +1,5 @@
 use mathlib.Core.Path.{◌≡◌, refl, sym, ap, ◌∙◌, subst}
-use mathlib.Core.Logic.{⊎_elim}
 use mathlib.Core.List.{List}
-use mathlib.Core.Option.{some}
 use Prim.Native.Nat.{ℕ, ◌+◌, ◌-◌, ◌*◌, ◌^◌, ◌≤◌, ◌<◌}
 use native.Mathlib.Omega.{arith}
 use borrow.Author.Rules.{rules}
@@ -12,13 +10,13 @@ use Rattle.keymap.specs.Limits.{word_bits}
 use Rattle.keymap.specs.Bits.{bit}
 use Rattle.walks.specs.declared.entries.Child.{Child}
 use Rattle.walks.specs.declared.entries.Child.TheVariants.{Node}
-use Rattle.walks.specs.Rule.{lowest_by, child_by, walked_from, walked}
+use Rattle.walks.specs.Rule.{lowest_by, child_by, walked_from}
 use Rattle.walks.specs.Stands.{child_of, reached_at}
 use Rattle.descents.specs.Far.{zero_bits, ZeroWord}
 use Rattle.walks.proofs.Laws.Rule.{walked_from-next, walked_from-lost}
 use Rattle.walks.proofs.Laws.Stands.{child_of-node, child_of-absent}
 use Rattle.walks.proofs.Laws.Siblings.{lowest-bounds}
-use Rattle.descents.proofs.Laws.Far.{Keeping, Settled, keeping_start, settled-found, settled-kept, settled-keeping, settled_same, keeping-next, keeping-stand, gone-rule, Stood, stood, NextAt, ahead_in, ahead-beyond, child-rule-far, zeros-most}
+use Rattle.descents.proofs.Laws.Far.{Settled, keeping_start, settled-found, settled-kept, settled-keeping, settled_same, keeping-next, keeping-stand, gone-rule, Stood, stood, NextAt, ahead_in, ahead-beyond, child-rule-far, zeros-most}
 use Rattle.descents.proofs.far.go_far.Goals.{After-ones_from-rest, After-row_known-1, In_default, After-row_known-in-loop-i-1, then-zeros-left+else-k-eq0, else-zeros-left, then-more-eq0+else-whole-v, else-more-eq0}
 use Rattle.descents.proofs.far.go_far.Goals as goal
 

@@ -1,8 +1,5 @@
-use Prim.Native.Nat.{◌-◌, ◌≤◌}
 use native.Mathlib.Omega.{arith}
-use borrow.Author.Rules.{rules}
-use lib.ListN.{length}
-use Rattle.descents.proofs.Laws.Far.{Passing, passing-start, passing-next, passing-found}
+use Rattle.descents.proofs.Laws.Far.{passing-start, passing-next, passing-found}
 use Rattle.descents.proofs.far.pass.Goals as goal
 
 pub returns-then-words-whole : goal.returns-then-words-whole

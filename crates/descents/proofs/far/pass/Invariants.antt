@@ -1,9 +1,7 @@
 -- `descents::far::pass` meets its contract. The invariant: the words from the first on are passed up to word w (`Passing`). Assumes nothing.
 use Prim.Native.Nat.{◌-◌, ◌≤◌}
-use native.Mathlib.Omega.{arith}
-use borrow.Author.Rules.{rules}
 use lib.ListN.{length}
-use Rattle.descents.proofs.Laws.Far.{Passing, passing-start, passing-next, passing-found}
+use Rattle.descents.proofs.Laws.Far.{Passing}
 use Rattle.descents.proofs.far.pass.Given as goal
 
 abbrev pub invariant-loop-sums : goal.invariant-loop-sums

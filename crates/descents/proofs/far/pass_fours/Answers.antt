@@ -1,11 +1,9 @@
 use mathlib.Core.Path.{◌≡◌, refl}
 use Prim.Native.Nat.{ℕ, ◌+◌, ◌-◌, ◌≤◌}
 use native.Mathlib.Omega.{arith}
-use borrow.Author.Rules.{rules}
-use lib.ListN.{length, get_or}
+use lib.ListN.{get_or}
 use lib.Count.{ones}
 use mathlib.Core.List.{List}
-use Rattle.descents.specs.Far.{PassedFrom}
 use Rattle.descents.proofs.Laws.Far.{nothing-passed, ones-most, four-passed}
 use Rattle.descents.proofs.far.pass_fours.Goals.{After-ones_in-in-loop-w-2, After-ones_in-in-loop-w-3}
 use Rattle.descents.proofs.far.pass_fours.Goals as goal

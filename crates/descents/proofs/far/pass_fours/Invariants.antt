@@ -1,13 +1,7 @@
 -- `descents::far::pass_fours` meets its contract. The invariant: the words from the first on are passed up to word w. Assumes nothing.
-use mathlib.Core.Path.{◌≡◌, refl}
-use Prim.Native.Nat.{ℕ, ◌+◌, ◌-◌, ◌≤◌}
-use native.Mathlib.Omega.{arith}
-use borrow.Author.Rules.{rules}
-use lib.ListN.{length, get_or}
-use lib.Count.{ones}
-use mathlib.Core.List.{List}
+use Prim.Native.Nat.{◌-◌, ◌≤◌}
+use lib.ListN.{length}
 use Rattle.descents.specs.Far.{PassedFrom}
-use Rattle.descents.proofs.Laws.Far.{nothing-passed, ones-most, four-passed}
 use Rattle.descents.proofs.far.pass_fours.Given as goal
 
 abbrev pub invariant-loop-w : goal.invariant-loop-w

@@ -1,5 +1,4 @@
 -- `descents::far::pass_on` meets its contract: what is left after the fours is left for single words. Assumes nothing.
-use borrow.Author.Rules.{rules}
 use Rattle.descents.proofs.Laws.Far.{ready-through}
 use Rattle.descents.proofs.far.pass_on.Goals as goal
 

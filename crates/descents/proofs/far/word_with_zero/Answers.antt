@@ -1,9 +1,5 @@
-use mathlib.Core.Path.{◌≡◌, refl, ◌∙◌}
-use Prim.Native.Nat.{◌-◌, ◌≤◌}
+use mathlib.Core.Path.{refl, ◌∙◌}
 use native.Mathlib.Omega.{arith}
-use borrow.Author.Rules.{rules}
-use lib.ListN.{length}
-use Rattle.descents.specs.Far.{zeros_up_to}
 use Rattle.descents.proofs.Laws.Far.{none-next}
 use Rattle.descents.proofs.far.word_with_zero.Goals as goal
 

@@ -1,11 +1,8 @@
 -- `descents::far::word_with_zero` meets its contract. The invariant: the words passed have no zero. Assumes nothing.
-use mathlib.Core.Path.{◌≡◌, refl, ◌∙◌}
+use mathlib.Core.Path.{◌≡◌}
 use Prim.Native.Nat.{◌-◌, ◌≤◌}
-use native.Mathlib.Omega.{arith}
-use borrow.Author.Rules.{rules}
 use lib.ListN.{length}
 use Rattle.descents.specs.Far.{zeros_up_to}
-use Rattle.descents.proofs.Laws.Far.{none-next}
 use Rattle.descents.proofs.far.word_with_zero.Given as goal
 
 abbrev pub invariant-loop-w : goal.invariant-loop-w

@@ -6,7 +6,6 @@ use Rattle.walks.specs.Rule.{walked}
 use Rattle.walks.specs.Stands.{child_of, reached_at}
 use Rattle.descents.specs.Far.{stand_near, ended_at}
 use Rattle.walks.proofs.Laws.Stands.{reached_at-to, reached_at-lost}
-use borrow.Author.Rules.{rules}
 use Rattle.descents.proofs.queries.end_of.Goals.{After-reach_end}
 use Rattle.descents.proofs.queries.end_of.Goals as goal
 

@@ -1,14 +1,12 @@
 use mathlib.Core.Path.{◌≡◌, sym, ap, ◌∙◌}
-use Prim.Native.Nat.{◌+◌, ◌-◌}
+use Prim.Native.Nat.{◌+◌}
 use native.Mathlib.Omega.{arith}
-use lib.ListN.{length, drop}
-use borrow.Author.Rules.{rules}
+use lib.ListN.{drop}
 use Rattle.keymap.specs.Bits.{bit}
 use Rattle.walks.specs.declared.stands.Stand.{Stand}
 use Rattle.walks.specs.declared.moves.Reached.{Reached}
 use Rattle.walks.specs.declared.moves.Reached.TheVariants.{To}
 use Rattle.walks.specs.Stands.{down_along}
-use Rattle.descents.specs.Far.{stand_near}
 use Rattle.walks.proofs.Laws.Stands.{down_along-next, down_along-over, down_along-lost}
 use Rattle.descents.proofs.queries.go_on.Goals.{After-down}
 use Rattle.descents.proofs.queries.go_on.Goals as goal

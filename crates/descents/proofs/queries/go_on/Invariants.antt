@@ -1,16 +1,11 @@
 -- `descents::queries::go_on` meets its contract. The invariant: what is left of the query, from the stand, ends where the whole of it does. Assumes nothing.
-use mathlib.Core.Path.{◌≡◌, sym, ap, ◌∙◌}
-use Prim.Native.Nat.{◌+◌, ◌-◌}
-use native.Mathlib.Omega.{arith}
+use mathlib.Core.Path.{◌≡◌}
+use Prim.Native.Nat.{◌-◌}
 use lib.ListN.{length, drop}
-use borrow.Author.Rules.{rules}
 use Rattle.keymap.specs.Bits.{bit}
-use Rattle.walks.specs.declared.stands.Stand.{Stand}
-use Rattle.walks.specs.declared.moves.Reached.{Reached}
 use Rattle.walks.specs.declared.moves.Reached.TheVariants.{To}
 use Rattle.walks.specs.Stands.{down_along}
 use Rattle.descents.specs.Far.{stand_near}
-use Rattle.walks.proofs.Laws.Stands.{down_along-next, down_along-over, down_along-lost}
 use Rattle.descents.proofs.queries.go_on.Given as goal
 
 abbrev pub invariant-loop-j : goal.invariant-loop-j

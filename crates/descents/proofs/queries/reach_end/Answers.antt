@@ -8,7 +8,6 @@ use Rattle.walks.specs.Rule.{walked}
 use Rattle.walks.specs.Stands.{reached_at}
 use Rattle.descents.specs.Far.{stand_near, went_on}
 use Rattle.walks.proofs.Laws.Stands.{down_along-over}
-use borrow.Author.Rules.{rules}
 use Rattle.descents.proofs.queries.reach_end.Goals.{After-go_far}
 use Rattle.descents.proofs.queries.reach_end.Goals as goal
 

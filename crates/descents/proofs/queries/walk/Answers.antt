@@ -9,7 +9,6 @@ use Rattle.walks.specs.Rule.{walked}
 use Rattle.walks.specs.Stands.{reached_at}
 use Rattle.descents.specs.Far.{stand_near, ended_at}
 use Rattle.walks.proofs.Laws.Stands.{down_along-over}
-use borrow.Author.Rules.{rules}
 use Rattle.descents.proofs.queries.walk.Goals.{After-reach_end}
 use Rattle.descents.proofs.queries.walk.Goals as goal
 

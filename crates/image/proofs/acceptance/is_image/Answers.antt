@@ -3,8 +3,6 @@ use mathlib.Core.Path.{◌≡◌, sym, ◌∙◌}
 use mathlib.Core.Bool.{true}
 use native.Mathlib.Omega.{arith}
 use lib.ListN.{length}
-use borrow.Author.Rules.{rules}
-use borrow.Author.Tests.{not-true, not-false}
 use Rattle.image.specs.AcceptTest.{lengths_fit}
 use Rattle.image.specs.Meaning.{image_in}
 use Rattle.image.proofs.Laws.AcceptTest.{lengths-told, image_test-unfit, image_test-unused, image_test-start, image_test-pass}
@@ -40,14 +38,17 @@ pub passes-requires : goal.passes-requires
 passes-requires c =
     let i = image_in c.args.labels c.args.values c.args.words in
     let told = lengths-told i (fit (goal.at.passes-requires c).Else-not-lengths_fit) in
-    let start = (first-bits i.words).1 c.if-words-ne1.false in record { fact_1 = told.values-fit; fact_2 = record {
+    let start = (first-bits i.words).1 c.if-words-ne1.false in record {
+      fact_1 = told.values-fit;
+      fact_2 = record {
         few = told.few;
         words-fit = told.words-fit;
         wide = λ w. (c.type_inv.words w).fits;
         unused = unused-bits (length i.labels) i.words told.words-fit c.if-words-len-ne0.false;
         first = start.0;
         second = start.1;
-      } }
+      };
+    }
 
 pub returns : goal.returns
 returns c =

@@ -3,7 +3,6 @@ use mathlib.Core.Path.{sym, ap, ◌∙◌}
 use lib.Dec.{eqb}
 use lib.ListN.{length}
 use native.Mathlib.Omega.{arith}
-use borrow.Author.Rules.{rules}
 use Rattle.keymap.specs.Image.{Image}
 use Rattle.image.specs.Meaning.{image_in}
 use Rattle.image.proofs.Laws.AcceptTest.{lengths_fit-many, lengths_fit-values, lengths_fit-words}

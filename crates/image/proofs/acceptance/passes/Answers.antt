@@ -1,7 +1,5 @@
 -- `image::acceptance::passes` meets its contract: the count, the entries and the words each stop the pass, and together are it. Assumes nothing.
 use mathlib.Core.Path.{sym, ◌∙◌}
-use borrow.Author.Rules.{rules}
-use borrow.Author.Tests.{not-true, not-false}
 use Rattle.image.specs.WordTest.{CountedWords}
 use Rattle.image.proofs.Laws.WordTest.{count-stop, entries-stop, words-pass}
 use Rattle.image.proofs.acceptance.passes.Goals.{Else-ones_before-n}

@@ -1,12 +1,10 @@
-use Prim.Native.Nat.{ℕ, ◌-◌}
+use Prim.Native.Nat.{ℕ}
 use mathlib.Core.Path.{sym, subst}
 use native.Mathlib.Omega.{arith}
-use lib.ListN.{length}
-use borrow.Author.Rules.{rules}
 use Rattle.records.specs.Words.{next_sibling}
 use Rattle.records.specs.Sound.{Chain}
 use Rattle.image.specs.LevelOrder.{child_records}
-use Rattle.image.proofs.Laws.Queueing.{Queueing, queueing-first, queueing-more, queueing-next, queueing-last}
+use Rattle.image.proofs.Laws.Queueing.{queueing-first, queueing-more, queueing-next, queueing-last}
 use Rattle.image.proofs.breadth_first.queue_children.Goals as goal
 
 pub loop-x-init : goal.loop-x-init

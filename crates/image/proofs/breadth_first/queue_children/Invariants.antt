@@ -1,14 +1,10 @@
 -- `image::breadth_first::queue_children` meets its contract. The invariant is `Queueing`: what is left of the chain is what is left of the children.
 -- The measure is how many are left. Assumes nothing.
-use Prim.Native.Nat.{ℕ, ◌-◌}
-use mathlib.Core.Path.{sym, subst}
-use native.Mathlib.Omega.{arith}
+use Prim.Native.Nat.{◌-◌}
 use lib.ListN.{length}
-use borrow.Author.Rules.{rules}
 use Rattle.records.specs.Words.{next_sibling}
-use Rattle.records.specs.Sound.{Chain}
 use Rattle.image.specs.LevelOrder.{child_records}
-use Rattle.image.proofs.Laws.Queueing.{Queueing, queueing-first, queueing-more, queueing-next, queueing-last}
+use Rattle.image.proofs.Laws.Queueing.{Queueing}
 use Rattle.image.proofs.breadth_first.queue_children.Given as goal
 
 abbrev pub invariant-loop-x : goal.invariant-loop-x

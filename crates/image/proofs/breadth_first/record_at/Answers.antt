@@ -4,7 +4,6 @@ use Prim.Native.Nat.{ℕ, suc, ◌-◌}
 use mathlib.Core.List.{◌∷◌}
 use native.Mathlib.Omega.{arith}
 use lib.ListN.{get_or}
-use borrow.Author.Rules.{rules}
 use Rattle.image.proofs.breadth_first.record_at.Goals as goal
 
 pub returns : goal.returns

@@ -1,15 +1,14 @@
-use Prim.Native.Nat.{ℕ, ◌+◌, ◌≤◌, ◌-◌}
+use Prim.Native.Nat.{ℕ}
 use mathlib.Core.Path.{◌≡◌, refl, ap, ◌∙◌}
 use mathlib.Core.List.{List}
 use native.Mathlib.Omega.{arith}
-use lib.ListN.{length, replicate}
+use lib.ListN.{replicate}
 use Rattle.keymap.specs.Bits.{words_for}
 use Rattle.keymap.specs.Image.{bits_for}
 use Rattle.louds.specs.Put.{with_one}
 use Rattle.keymap.specs.Buffers.{over}
-use borrow.Author.Rules.{rules}
 use Rattle.image.specs.Build.{Levels}
-use Rattle.image.proofs.Laws.Turns.{Turn, turn-first, turn-length, turn-room, turn-place, turn-asks, turn-next, turn-queue, turn-words}
+use Rattle.image.proofs.Laws.Turns.{turn-first, turn-length, turn-room, turn-place, turn-asks, turn-next, turn-queue, turn-words}
 use Rattle.image.proofs.breadth_first.write_levels.Goals.{After-slice_known-4-1}
 use Rattle.image.proofs.breadth_first.write_levels.Goals as goal
 
@@ -20,13 +19,11 @@ clear-requires c =
 start-words : (c : After-slice_known-4-1)
     → c.put_one.new.words ≡ with_one (over (replicate (words_for (bits_for c.args.n)) 0) c.args.words.now) 0
 start-words c =
-    
     c.put_one.ensures
     ∙ ap (λ (ws : List ℕ). with_one ws 0) (c.clear.ensures ∙ ap (λ (w : ℕ). over (replicate w 0) c.args.words.now) c.words_for-count.ensures)
 
 start-levels : (c : After-slice_known-4-1) → Levels c.args.pool.now c.args.n c.put_one.new.words c.args.queue.now
 start-levels c =
-    
     let h = c.requires in
     record { sound = h.sound; count = h.count; words-fit = omega (arith, h.words-fit, c.put_one.auto.words, c.clear.auto.words); queue-fits = h.queue-fits }
 
@@ -42,17 +39,14 @@ queue_children-d-requires c =
 
 pub overflow_add-tail : goal.overflow_add-tail
 overflow_add-tail c =
-    
     let i = c.loop-k in omega (arith, c.queue_children-d.ensures.count, turn-room _ _ _ _ i.invariant.2 _ _ _ _ _ i.invariant.3 c.loop-k-test.true _ c.record_at-c.ensures, c.ranges.n)
 
 pub overflow_add-at : goal.overflow_add-at
 overflow_add-at c =
-    
     let i = c.loop-k in omega (arith, c.queue_children-d.ensures.count, turn-room _ _ _ _ i.invariant.2 _ _ _ _ _ i.invariant.3 c.loop-k-test.true _ c.record_at-c.ensures, c.ranges.n)
 
 pub overflow_add-at-in-loop-k : goal.overflow_add-at-in-loop-k
 overflow_add-at-in-loop-k c =
-    
     let i = c.loop-k in omega (arith, c.queue_children-d.ensures.count, turn-place _ _ _ _ i.invariant.2 _ _ _ _ _ i.invariant.3 c.loop-k-test.true _ c.record_at-c.ensures, c.ranges.n)
 
 pub overflow_add-k : goal.overflow_add-k
@@ -65,7 +59,6 @@ loop-k-smaller c =
 
 pub loop-k-preserved : goal.loop-k-preserved
 loop-k-preserved c =
-    
     let i = c.loop-k in
     let q = c.queue_children-d in
     let l = c.loop-k-test.true in (

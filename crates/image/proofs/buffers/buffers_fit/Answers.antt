@@ -1,6 +1,5 @@
 -- `image::buffers::buffers_fit` meets its contract: at each return the tests that led there say which case of `buffers_fit` holds. Assumes nothing.
 use native.Mathlib.Omega.{arith}
-use borrow.Author.Rules.{rules}
 use Rattle.image.proofs.Laws.Build.{fit-labels, fit-values, fit_words, fit-scratch}
 use Rattle.image.proofs.buffers.buffers_fit.Goals as goal
 

@@ -1,9 +1,8 @@
-use Prim.Native.Nat.{ℕ, ◌≤◌, ◌<◌, ◌-◌}
+use Prim.Native.Nat.{ℕ, ◌<◌}
 use mathlib.Core.Path.{◌≡◌, refl, sym, ap, ap₂, ◌∙◌}
 use mathlib.Core.List.{List, map}
 use native.Mathlib.Omega.{arith}
-use lib.ListN.{length, take, set, length-set}
-use borrow.Author.Rules.{rules}
+use lib.ListN.{take, set, length-set}
 use Rattle.records.specs.Words.{entry, value}
 use Rattle.keymap.specs.Buffers.{over}
 use Rattle.keymap.proofs.Laws.Buffers.{over_none, over-told}

@@ -1,14 +1,11 @@
 -- `image::entries::write_entries` meets its contract. The invariant: the first j entries are written over the front of each buffer. The measure is what is left.
 -- Assumes nothing.
-use Prim.Native.Nat.{ℕ, ◌≤◌, ◌<◌, ◌-◌}
-use mathlib.Core.Path.{◌≡◌, refl, sym, ap, ap₂, ◌∙◌}
-use mathlib.Core.List.{List, map}
-use native.Mathlib.Omega.{arith}
-use lib.ListN.{length, take, set, length-set}
-use borrow.Author.Rules.{rules}
+use Prim.Native.Nat.{◌≤◌, ◌-◌}
+use mathlib.Core.Path.{◌≡◌}
+use mathlib.Core.List.{map}
+use lib.ListN.{length, take}
 use Rattle.records.specs.Words.{entry, value}
 use Rattle.keymap.specs.Buffers.{over}
-use Rattle.keymap.proofs.Laws.Buffers.{over_none, over-told}
 use Rattle.image.proofs.entries.write_entries.Given as goal
 
 abbrev pub invariant-loop-j : goal.invariant-loop-j

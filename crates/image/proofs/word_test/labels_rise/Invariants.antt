@@ -1,15 +1,9 @@
 -- `image::word_test::labels_rise` meets its contract. The invariant: the labels passed rise. Assumes nothing.
-use mathlib.Core.Path.{◌≡◌, sym, ◌∙◌}
+use mathlib.Core.Path.{◌≡◌}
 use mathlib.Core.Bool.{true}
 use Prim.Native.Nat.{◌+◌, ◌-◌, ◌≤◌}
-use native.Mathlib.Nat.{le_antisymm}
-use native.Mathlib.Omega.{arith}
-use borrow.Author.Rules.{rules}
-use borrow.Author.Tests.{lt-ltb, le-ltb}
 use Rattle.image.specs.AcceptTest.{labels_rise}
 use Rattle.image.specs.WordTest.{all_below}
-use Rattle.image.proofs.Laws.AcceptTest.{labels_rise-is}
-use Rattle.image.proofs.Laws.AllBelow.{all-zero, all-next, all-stop, and-made}
 use Rattle.image.proofs.word_test.labels_rise.Given as goal
 
 abbrev pub invariant-loop-j : goal.invariant-loop-j

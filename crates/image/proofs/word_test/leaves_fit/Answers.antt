@@ -1,10 +1,8 @@
 use mathlib.Core.Path.{refl, sym, ◌∙◌, subst}
-use mathlib.Core.Logic.{⊎_elim}
 use Prim.Native.Nat.{◌+◌, ◌-◌, ◌≤◌}
 use native.Mathlib.Omega.{arith}
 use lib.ListN.{length}
 use lib.Bits.{bit_and}
-use borrow.Author.Rules.{rules}
 use Rattle.louds.proofs.Laws.Digits.{some-positive, cleared-less}
 use Rattle.image.proofs.Laws.WordWalks.{LeavesKept, leaves_none, leaves-start, leaves-high, leaves-root, leaves-unmarked, leaves-marked, leaves-end, none-bad}
 use Rattle.image.proofs.word_test.leaves_fit.Goals.{In-loop-rest, then-labels-m-lt-MARK, else-labels-m-lt-MARK}

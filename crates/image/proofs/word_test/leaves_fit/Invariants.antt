@@ -1,14 +1,7 @@
 -- `image::word_test::leaves_fit` meets its contract. The invariant of both loops: `rest` has the zeros from a place on, `m` counts those before, and `bad`, which is 0
 -- in the first loop, is 0 exactly if these fit. The measures are how far m is from 2, and `rest`. Assumes nothing.
-use mathlib.Core.Path.{refl, sym, ◌∙◌, subst}
-use mathlib.Core.Logic.{⊎_elim}
-use Prim.Native.Nat.{◌+◌, ◌-◌, ◌≤◌}
-use native.Mathlib.Omega.{arith}
-use lib.ListN.{length}
-use lib.Bits.{bit_and}
-use borrow.Author.Rules.{rules}
-use Rattle.louds.proofs.Laws.Digits.{some-positive, cleared-less}
-use Rattle.image.proofs.Laws.WordWalks.{LeavesKept, leaves_none, leaves-start, leaves-high, leaves-root, leaves-unmarked, leaves-marked, leaves-end, none-bad}
+use Prim.Native.Nat.{◌-◌, ◌≤◌}
+use Rattle.image.proofs.Laws.WordWalks.{LeavesKept}
 use Rattle.image.proofs.word_test.leaves_fit.Given as goal
 
 abbrev pub invariant-loop-m : goal.invariant-loop-m

@@ -1,9 +1,8 @@
 use mathlib.Core.Path.{sym}
 use native.Mathlib.Omega.{arith}
 use lib.Count.{ones-le, trailing_le}
-use borrow.Author.Rules.{rules}
 use Rattle.louds.proofs.Laws.Digits.{some-positive, cleared-less}
-use Rattle.image.proofs.Laws.WordWalks.{ParentsKept, parents-all, parents-start, parents-few, parents-stop, parents-turn, parents-end}
+use Rattle.image.proofs.Laws.WordWalks.{parents-all, parents-start, parents-few, parents-stop, parents-turn, parents-end}
 use Rattle.image.proofs.word_test.parents_fit.Goals as goal
 
 pub overflow_add-before : goal.overflow_add-before

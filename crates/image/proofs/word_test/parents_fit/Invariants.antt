@@ -1,11 +1,6 @@
 -- `image::word_test::parents_fit` meets its contract: either all ones fit by the law `parents-all`, or each is looked at. The invariant: `rest` has the ones
 -- from a place on, `m` counts those before, and these fit. The measure is `rest`. Assumes nothing.
-use mathlib.Core.Path.{sym}
-use native.Mathlib.Omega.{arith}
-use lib.Count.{ones-le, trailing_le}
-use borrow.Author.Rules.{rules}
-use Rattle.louds.proofs.Laws.Digits.{some-positive, cleared-less}
-use Rattle.image.proofs.Laws.WordWalks.{ParentsKept, parents-all, parents-start, parents-few, parents-stop, parents-turn, parents-end}
+use Rattle.image.proofs.Laws.WordWalks.{ParentsKept}
 use Rattle.image.proofs.word_test.parents_fit.Given as goal
 
 abbrev pub invariant-loop-rest : goal.invariant-loop-rest

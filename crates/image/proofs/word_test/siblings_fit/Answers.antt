@@ -1,9 +1,7 @@
 use mathlib.Core.Path.{sym, ◌∙◌}
 use native.Mathlib.Omega.{arith}
-use borrow.Author.Rules.{rules}
-use borrow.Author.Tests.{not-true, not-false}
 use Rattle.louds.proofs.Laws.Words.{one-shl-pos}
-use Rattle.image.proofs.Laws.WordWalks.{SiblingsKept, siblings-start, siblings-inside, siblings-end, Run, run_of}
+use Rattle.image.proofs.Laws.WordWalks.{siblings-start, siblings-inside, siblings-end, Run, run_of}
 use Rattle.image.proofs.word_test.siblings_fit.Goals.{After-ones_in}
 use Rattle.image.proofs.word_test.siblings_fit.Goals as goal
 

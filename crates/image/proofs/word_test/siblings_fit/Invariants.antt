@@ -1,11 +1,6 @@
 -- `image::word_test::siblings_fit` meets its contract. The invariant: `y` has the flags from a place on, and the places before fit. A turn takes a run of
 -- flags off. The measure is `y`. Assumes nothing.
-use mathlib.Core.Path.{sym, ◌∙◌}
-use native.Mathlib.Omega.{arith}
-use borrow.Author.Rules.{rules}
-use borrow.Author.Tests.{not-true, not-false}
-use Rattle.louds.proofs.Laws.Words.{one-shl-pos}
-use Rattle.image.proofs.Laws.WordWalks.{SiblingsKept, siblings-start, siblings-inside, siblings-end, Run, run_of}
+use Rattle.image.proofs.Laws.WordWalks.{SiblingsKept}
 use Rattle.image.proofs.word_test.siblings_fit.Given as goal
 
 abbrev pub invariant-loop-y : goal.invariant-loop-y

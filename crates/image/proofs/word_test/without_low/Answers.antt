@@ -3,7 +3,6 @@ use mathlib.Core.Path.{sym, ap, ◌∙◌}
 use Prim.Native.Nat.{ℕ, ◌*◌, ◌^◌}
 use native.Mathlib.Nat.{mod-eq_of_lt, div-eq_of_lt, lt_of_lt_of_le, zero-mul}
 use lib.Pow.{pow_mono}
-use borrow.Author.Rules.{rules}
 use Rattle.keymap.specs.Limits.{word_bits}
 use Rattle.louds.proofs.Laws.Digits.{above_wide}
 use Rattle.image.proofs.word_test.without_low.Goals as goal

@@ -1,10 +1,7 @@
 -- `image::word_test::word_fits` meets its contract: at each return the tests that led there say which case of `word_fits` holds. Assumes nothing.
 use mathlib.Core.Path.{◌≡◌, sym, ap, ◌∙◌, subst}
-use mathlib.Core.Logic.{⊎_elim}
 use Prim.Native.Nat.{ℕ, ◌-◌}
 use lib.ListN.{length}
-use borrow.Author.Rules.{rules}
-use borrow.Author.Tests.{not-true, not-false}
 use Rattle.keymap.specs.Limits.{word_bits}
 use Rattle.louds.specs.Digits.{complement}
 use Rattle.louds.proofs.Laws.Words.{one-shl-pos, masked}

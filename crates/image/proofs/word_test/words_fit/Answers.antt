@@ -1,11 +1,8 @@
 use mathlib.Core.Path.{◌≡◌, sym, ap, ap₂, ◌∙◌}
-use mathlib.Core.Bool.{true}
-use Prim.Native.Nat.{ℕ, ◌+◌, ◌-◌, ◌*◌, ◌≤◌}
+use Prim.Native.Nat.{ℕ, ◌+◌, ◌-◌, ◌*◌}
 use native.Mathlib.Nat.{le_antisymm}
 use native.Mathlib.Omega.{arith}
 use lib.ListN.{length, get_or}
-use borrow.Author.Rules.{rules}
-use borrow.Author.Tests.{not-true, not-false}
 use Rattle.keymap.specs.Bits.{bit}
 use Rattle.keymap.specs.Image.{bits_for}
 use Rattle.keymap.proofs.Laws.Bits.{bit-small}
@@ -13,7 +10,7 @@ use Rattle.keymap.proofs.Laws.Sums.{sum_below-zero}
 use Rattle.louds.specs.Rank.{ones_before}
 use Rattle.louds.proofs.Laws.Rank.{ones-zeros}
 use Rattle.louds.proofs.Laws.Words.{ones-whole}
-use Rattle.image.specs.WordTest.{all_below, last_before, word_fits, word_at}
+use Rattle.image.specs.WordTest.{all_below, word_fits, word_at}
 use Rattle.image.proofs.Laws.AllBelow.{all-zero, all-next, all-stop, and-made}
 use Rattle.image.proofs.Laws.WordTest.{at-inside, word-inside, last_before-first, last_before-next, word_at-is}
 use Rattle.image.proofs.word_test.words_fit.Goals.{After-ones_in-before, After-word_fits}
@@ -65,7 +62,6 @@ returns-then-not-word_fits c =
 step : (c : After-ones_in-before)
     → c.loop-w.before + c.ones_in-before.result ≡ ones_before (bit c.args.words.now) ((c.loop-w.w + 1) * 64)
 step c =
-    
     let l = c.loop-w in
     ap₂ (λ (u v : ℕ). u + v) l.invariant.1 c.ones_in-before.ensures ∙ sym (ones-whole c.args.words.now l.w (c.requires.framed.wide l.w))
 

@@ -1,8 +1,5 @@
-use mathlib.Core.Path.{◌≡◌, refl}
-use Prim.Native.Nat.{◌+◌, ◌-◌}
+use mathlib.Core.Path.{refl}
 use native.Mathlib.Omega.{arith}
-use lib.ListN.{length, drop}
-use Rattle.lines.specs.Bytes.{stretch}
 use Rattle.lines.proofs.Laws.Bytes.{stretch-at, stretch-past, stretch-end}
 use Rattle.lines.proofs.bytes.find.Goals as goal
 

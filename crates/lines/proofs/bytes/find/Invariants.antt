@@ -1,10 +1,8 @@
 -- `lines::bytes::find` meets its contract. The invariant of its loop: the first b from `from` on is the first from `i` on. Assumes nothing.
-use mathlib.Core.Path.{◌≡◌, refl}
+use mathlib.Core.Path.{◌≡◌}
 use Prim.Native.Nat.{◌+◌, ◌-◌}
-use native.Mathlib.Omega.{arith}
 use lib.ListN.{length, drop}
 use Rattle.lines.specs.Bytes.{stretch}
-use Rattle.lines.proofs.Laws.Bytes.{stretch-at, stretch-past, stretch-end}
 use Rattle.lines.proofs.bytes.find.Given as goal
 
 abbrev pub invariant-loop-i : goal.invariant-loop-i

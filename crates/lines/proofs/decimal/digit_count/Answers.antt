@@ -1,8 +1,6 @@
-use mathlib.Core.Path.{◌≡◌, ap}
-use Prim.Native.Nat.{◌+◌}
+use mathlib.Core.Path.{ap}
 use native.Mathlib.Omega.{arith}
 use lib.ListN.{length}
-use Rattle.lines.specs.Decimal.{decimal}
 use Rattle.lines.proofs.Laws.Decimal.{decimal-small, length-decimal-some, length-decimal-large, length-decimal-most}
 use Rattle.lines.proofs.decimal.digit_count.Goals as goal
 

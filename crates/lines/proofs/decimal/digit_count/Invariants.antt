@@ -1,11 +1,9 @@
 -- `lines::decimal::digit_count` meets its contract. The invariant of its loop: the digits counted beyond the first and those of `rest` are the number's.
 -- Assumes nothing.
-use mathlib.Core.Path.{◌≡◌, ap}
+use mathlib.Core.Path.{◌≡◌}
 use Prim.Native.Nat.{◌+◌}
-use native.Mathlib.Omega.{arith}
 use lib.ListN.{length}
 use Rattle.lines.specs.Decimal.{decimal}
-use Rattle.lines.proofs.Laws.Decimal.{decimal-small, length-decimal-some, length-decimal-large, length-decimal-most}
 use Rattle.lines.proofs.decimal.digit_count.Given as goal
 
 abbrev pub invariant-loop-rest : goal.invariant-loop-rest

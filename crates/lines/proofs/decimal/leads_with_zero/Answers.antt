@@ -1,7 +1,6 @@
 -- `lines::decimal::leads_with_zero` meets its contract: each return rewrites with the test that led there. Assumes nothing.
 use native.Mathlib.Omega.{arith}
 use lib.ListN.{length}
-use borrow.Author.Rules.{rules}
 use borrow.Author.Tests.{lt-ltb, le-ltb}
 use Rattle.lines.specs.Decimal.{leading_zero}
 use Rattle.lines.proofs.decimal.leads_with_zero.Goals as goal

@@ -6,7 +6,6 @@ use mathlib.Core.Option.{some}
 use Prim.Native.Nat.{ℕ, ◌≤◌, ◌<◌}
 use native.Mathlib.Omega.{arith}
 use lib.ListN.{length}
-use borrow.Author.Rules.{rules}
 use Rattle.keymap.specs.Limits.{value_limit}
 use Rattle.lines.specs.Decimal.{most_digits, leading_zero, number_in}
 use Rattle.lines.specs.Numerals.{digits_in}

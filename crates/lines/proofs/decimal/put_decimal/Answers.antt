@@ -1,9 +1,9 @@
-use mathlib.Core.Path.{◌≡◌, refl, sym, ap, ◌∙◌}
+use mathlib.Core.Path.{◌≡◌, refl, sym, ◌∙◌}
 use mathlib.Core.List.{List, ◌∷◌, ◌++◌, append_assoc}
 use Prim.Native.Nat.{ℕ, zero, suc, ◌+◌, ◌-◌, ◌/◌, ◌%◌, ◌≤◌, ◌<◌}
 use native.Mathlib.Nat.{add-zero}
 use native.Mathlib.Omega.{arith}
-use lib.ListN.{length, take, drop, get_or, set, length-set, take-append-drop}
+use lib.ListN.{length, take, drop, set, length-set, take-append-drop}
 use lib.Seq.{drop-cons, drop-drop, take-set-le, drop-set-lt, get_or-set_same}
 use Rattle.keymap.specs.Buffers.{over}
 use Rattle.lines.specs.Decimal.{zero_digit, decimal}

@@ -4,7 +4,6 @@ use mathlib.Core.List.{List, [], ◌∷◌, ◌++◌, append_assoc}
 use Prim.Native.Nat.{ℕ, ◌+◌, ◌≤◌}
 use native.Mathlib.Omega.{arith}
 use lib.ListN.{length, take, drop, set, length-append, length-set}
-use borrow.Author.Rules.{rules}
 use Rattle.keymap.specs.Buffers.{over}
 use Rattle.lines.specs.Bytes.{tab, line_feed}
 use Rattle.lines.specs.Decimal.{decimal}

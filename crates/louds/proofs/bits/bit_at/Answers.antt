@@ -1,5 +1,5 @@
 -- `louds::bits::bit_at` meets its contract: what it computes is `bit`, by definition. Assumes nothing.
-use Rattle.std.proofs.Common.{ℕ, ◌/◌, ◌%◌, ◌^◌, ap, rules}
+use Rattle.std.proofs.Common.{ℕ, ◌/◌, ◌%◌, ◌^◌, ap}
 use Rattle.keymap.specs.Bits.{bit}
 use Rattle.louds.proofs.bits.bit_at.Goals as goal
 

@@ -1,6 +1,6 @@
 -- `louds::bits::put_one` meets its contract: within the slice the word is written as `with_one` says, beyond it `with_one` changes nothing.
 -- Assumes nothing.
-use Rattle.std.proofs.Common.{ℕ, ◌/◌, ◌%◌, get_or, set, sym, ap, mod-lt, lit<, rules}
+use Rattle.std.proofs.Common.{ℕ, ◌/◌, ◌%◌, get_or, set, sym, ap, mod-lt, lit<}
 use lib.Bits.{bit_or}
 use Rattle.louds.specs.Put.{with_one}
 use Rattle.louds.proofs.Laws.Words.{one_shl}

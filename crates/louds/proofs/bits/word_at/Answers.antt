@@ -1,5 +1,5 @@
 -- `louds::bits::word_at` meets its contract: within the slice by reading it, beyond by `get_or`'s default. Assumes nothing.
-use Rattle.std.proofs.Common.{sym, rules}
+use Rattle.std.proofs.Common.{sym}
 use lib.ListN.{get_or-eq_default}
 use Rattle.louds.proofs.bits.word_at.Goals as goal
 

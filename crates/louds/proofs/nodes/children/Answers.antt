@@ -1,6 +1,6 @@
 -- `louds::nodes::children` meets its contract: before the k-th zero stand k - 1 zeros, the first zero past it is the next,
 -- and the run between them is the laws' (`children-to-zero`, `children-to-end`). Assumes nothing.
-use Rattle.std.proofs.Common.{◌≡◌, ◌+◌, sym, ◌∙◌, arith, rules}
+use Rattle.std.proofs.Common.{◌≡◌, ◌+◌, sym, ◌∙◌, arith}
 use Rattle.keymap.specs.Bits.{bit}
 use Rattle.keymap.proofs.Laws.Bits.{bit-small}
 use Rattle.louds.specs.declared.answers.Spot.{Spot}

@@ -1,5 +1,5 @@
 -- `louds::nodes::parent` meets its contract: before the m-th one stand m - 1 ones, and the rest are zeros (`parent-at`). Assumes nothing.
-use Rattle.std.proofs.Common.{◌≡◌, sym, ◌∙◌, arith, rules}
+use Rattle.std.proofs.Common.{◌≡◌, sym, ◌∙◌, arith}
 use Rattle.keymap.specs.Bits.{bit}
 use Rattle.keymap.proofs.Laws.Bits.{bit-small}
 use Rattle.louds.specs.declared.answers.Spot.TheVariants.{At}

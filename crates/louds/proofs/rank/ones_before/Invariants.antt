@@ -1,13 +1,8 @@
 -- `louds::rank::ones_before` meets its contract. The invariant: `total` is the ones of the `w` words passed. Past the slice's end there are no more;
 -- at the place's own word the law `ones-part` adds those of its masked part. Assumes nothing.
-use Rattle.std.proofs.Common.{◌≡◌, ℕ, ◌+◌, ◌-◌, ◌*◌, ◌/◌, ◌%◌, ◌^◌, ◌≤◌, sym, ap, ◌∙◌, ap₂, zero-le, mod-lt, le_antisymm, arith, lit<, rules}
-use lib.Count.{ones}
+use Rattle.std.proofs.Common.{◌≡◌, ◌-◌, ◌*◌, ◌≤◌}
 use Rattle.keymap.specs.Bits.{bit}
-use Rattle.keymap.proofs.Laws.Sums.{sum_below-zero}
-use Rattle.keymap.proofs.Laws.Bits.{bit-small}
 use Rattle.louds.specs.Rank.{ones_before}
-use Rattle.louds.proofs.Laws.Rank.{ones-zeros}
-use Rattle.louds.proofs.Laws.Words.{ones-whole, ones-part, ones-beyond, one-shl-pos, masked}
 use Rattle.louds.proofs.rank.ones_before.Given as goal
 
 abbrev pub invariant-loop-w : goal.invariant-loop-w

@@ -1,5 +1,5 @@
 -- `louds::rank::ones_by_byte` meets its contract: each of its three sums has in a byte the ones of twice as many bytes, and none runs over. Assumes nothing.
-use Rattle.std.proofs.Common.{◌≡◌, ℕ, ◌+◌, ◌*◌, ◌%◌, ◌^◌, ◌∙◌, arith, lit<, rules}
+use Rattle.std.proofs.Common.{◌≡◌, ℕ, ◌+◌, ◌*◌, ◌%◌, ◌^◌, ◌∙◌, arith, lit<}
 use Rattle.keymap.specs.Limits.{word_bits}
 use Rattle.louds.proofs.Laws.Fields.{joined}
 use Rattle.louds.proofs.Laws.ByteRanks.{window, windows-start, windows-lt, windows-all, prefix-sums}

@@ -1,5 +1,5 @@
 -- `louds::rank::ones_in` meets its contract: a word has at most 64 ones, so the count fits. Assumes nothing.
-use Rattle.std.proofs.Common.{arith, rules}
+use Rattle.std.proofs.Common.{arith}
 use lib.Count.{ones-le}
 use Rattle.louds.proofs.rank.ones_in.Goals as goal
 

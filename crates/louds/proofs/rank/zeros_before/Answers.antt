@@ -1,5 +1,5 @@
 -- `louds::rank::zeros_before` meets its contract: a place is as many as the ones and the zeros before it. Assumes nothing.
-use Rattle.std.proofs.Common.{arith, rules}
+use Rattle.std.proofs.Common.{arith}
 use Rattle.keymap.specs.Bits.{bit}
 use Rattle.keymap.proofs.Laws.Bits.{bit-small}
 use Rattle.louds.proofs.Laws.Rank.{ones-zeros}

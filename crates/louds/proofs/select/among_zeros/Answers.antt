@@ -1,5 +1,5 @@
 -- `louds::select::among_zeros` meets its contract: where all bits are zeros the k-th stands k - 1 places on. Assumes nothing.
-use Rattle.std.proofs.Common.{◌≡◌, ℕ, sym, ap, ◌∙◌, arith, rules}
+use Rattle.std.proofs.Common.{◌≡◌, ℕ, sym, ap, ◌∙◌, arith}
 use Rattle.louds.specs.Select.{bit_from, kth, onward, marks}
 use Rattle.louds.proofs.Laws.Select.{kth-zero}
 use Rattle.louds.proofs.Laws.Passing.{zeros-at, zeros-short, no-zeros}

@@ -1,9 +1,9 @@
-use Rattle.std.proofs.Common.{◌≡◌, ◌+◌, ◌-◌, ◌<◌, length, sym, ap, ◌∙◌, arith, rules}
+use Rattle.std.proofs.Common.{◌≡◌, ◌+◌, ◌-◌, ◌<◌, sym, ap, ◌∙◌, arith}
 use lib.Count.{ones}
 use Rattle.keymap.specs.Bits.{bit}
 use Rattle.louds.specs.Select.{kth, onward, marks}
 use Rattle.louds.proofs.Laws.Select.{kth-zero}
-use Rattle.louds.proofs.Laws.Passing.{Passed, passed_first, passed-next, passed-short, passed-out, passed-at, passed-past, nothing-behind, zeros-beyond}
+use Rattle.louds.proofs.Laws.Passing.{passed_first, passed-next, passed-short, passed-out, passed-at, passed-past, nothing-behind, zeros-beyond}
 use Rattle.louds.proofs.select.bit_from.Goals.{In-loop-count}
 use Rattle.louds.proofs.select.bit_from.Goals as goal
 

@@ -1,5 +1,5 @@
 -- `louds::select::lowest_one` meets its contract: a place is at most 64, so it fits. Assumes nothing.
-use Rattle.std.proofs.Common.{arith, rules}
+use Rattle.std.proofs.Common.{arith}
 use lib.Count.{trailing_le}
 use Rattle.louds.proofs.select.lowest_one.Goals as goal
 

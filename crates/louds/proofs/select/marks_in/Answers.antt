@@ -1,5 +1,5 @@
 -- `louds::select::marks_in` meets its contract: zeros are marked by the complement of a word, ones by itself. Assumes nothing.
-use Rattle.std.proofs.Common.{ℕ, sym, ap, ◌∙◌, rules}
+use Rattle.std.proofs.Common.{ℕ, sym, ap, ◌∙◌}
 use Rattle.keymap.specs.Bits.{bit}
 use Rattle.louds.specs.Digits.{complement}
 use Rattle.louds.specs.Select.{marks}

@@ -1,5 +1,5 @@
 -- `louds::select::near_zero` meets its contract: the word of the place has the k-th zero, or too few, or the k-th stands behind the length. Assumes nothing.
-use Rattle.std.proofs.Common.{◌≡◌, ℕ, ◌+◌, ◌*◌, ◌/◌, ◌%◌, ◌^◌, min, sym, ap, ◌∙◌, arith, rules}
+use Rattle.std.proofs.Common.{◌≡◌, ℕ, ◌+◌, ◌*◌, ◌/◌, ◌%◌, ◌^◌, min, sym, ap, ◌∙◌, arith}
 use Rattle.keymap.specs.Limits.{word_bits}
 use Rattle.keymap.specs.Bits.{bit}
 use Rattle.louds.specs.declared.answers.Spot.TheVariants.{At}

@@ -1,5 +1,5 @@
 -- `louds::select::one_at` meets its contract: the bits that equal 1 mark the ones, and from place 0 on are all of them. Assumes nothing.
-use Rattle.std.proofs.Common.{ℕ, ap, ◌∙◌, rules}
+use Rattle.std.proofs.Common.{ℕ, ap, ◌∙◌}
 use Rattle.keymap.specs.Bits.{bit}
 use Rattle.louds.specs.Select.{kth, onward}
 use Rattle.louds.proofs.Laws.Select.{kth-start, marks-one}

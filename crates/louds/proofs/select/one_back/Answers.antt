@@ -1,4 +1,4 @@
-use Rattle.std.proofs.Common.{◌≡◌, ℕ, ◌+◌, ◌-◌, ◌*◌, ◌/◌, ◌%◌, ◌^◌, ◌<◌, get_or, sym, refl, ap, ◌∙◌, subst, ⊎_elim, le_of_lt, mod-lt, arith, lit<, rules}
+use Rattle.std.proofs.Common.{◌≡◌, ℕ, ◌+◌, ◌-◌, ◌*◌, ◌/◌, ◌%◌, ◌^◌, ◌<◌, get_or, sym, refl, ap, ◌∙◌, subst, le_of_lt, mod-lt, arith, lit<}
 use lib.Bits.{bit_and}
 use lib.Count.{ones}
 use Rattle.keymap.specs.Bits.{bit, sum_below}

@@ -1,12 +1,6 @@
 -- `louds::select::one_back` meets its contract. The invariant: `seen` ones stand from word `w` on before the place, the ones of `x` among them, and the k-th from the end is not
 -- among the others. Assumes nothing.
-use Rattle.std.proofs.Common.{◌≡◌, ℕ, ◌+◌, ◌-◌, ◌*◌, ◌/◌, ◌%◌, ◌^◌, ◌<◌, get_or, sym, refl, ap, ◌∙◌, subst, ⊎_elim, le_of_lt, mod-lt, arith, lit<, rules}
-use lib.Bits.{bit_and}
-use lib.Count.{ones}
-use Rattle.keymap.specs.Bits.{bit, sum_below}
-use Rattle.louds.proofs.Laws.Words.{one-shl-pos, masked}
-use Rattle.louds.proofs.Laws.Select.{kth-none}
-use Rattle.louds.proofs.Laws.Descending.{Descended, descended-first, descended-beyond, descended-fits, descended-next, descended-none, descended-own, descended-near, descended-at}
+use Rattle.louds.proofs.Laws.Descending.{Descended}
 use Rattle.louds.proofs.select.one_back.Given as goal
 
 abbrev pub invariant-loop-seen : goal.invariant-loop-seen

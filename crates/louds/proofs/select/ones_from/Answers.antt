@@ -1,8 +1,8 @@
-use Rattle.std.proofs.Common.{◌≡◌, ℕ, ◌+◌, ◌*◌, ◌%◌, sym, ap, ◌∙◌, arith, rules}
+use Rattle.std.proofs.Common.{◌≡◌, ℕ, ◌+◌, ◌*◌, ◌%◌, sym, ap, ◌∙◌, arith}
 use lib.Bits.{bit_and}
 use Rattle.keymap.specs.Limits.{word_bits}
 use Rattle.louds.specs.Digits.{complement}
-use Rattle.louds.specs.Taking.{low_bits, top_bits, cleared, fewer_by, ones_from}
+use Rattle.louds.specs.Taking.{low_bits, top_bits, cleared, fewer_by}
 use Rattle.louds.proofs.Laws.Taking.{cleared-none, cleared-next, cleared-zero, ones_from-is, start-inside, trailing-most}
 use Rattle.louds.proofs.select.ones_from.Goals.{After-wrapping_add_u64-fewer}
 use Rattle.louds.proofs.select.ones_from.Goals as goal

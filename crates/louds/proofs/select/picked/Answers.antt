@@ -1,10 +1,10 @@
-use Rattle.std.proofs.Common.{sym, ap, ◌∙◌, arith, rules}
+use Rattle.std.proofs.Common.{sym, ap, ◌∙◌, arith}
 use Rattle.keymap.specs.Limits.{word_bits}
 use Rattle.louds.specs.Digits.{digit}
 use Rattle.louds.specs.Nodes.{or_end}
 use Rattle.louds.specs.Select.{kth}
 use Rattle.louds.proofs.Laws.Select.{kth-zero}
-use Rattle.louds.proofs.Laws.NthOne.{Picking, picking-start, picking-none, picking-next, picking-last}
+use Rattle.louds.proofs.Laws.NthOne.{picking-start, picking-none, picking-next, picking-last}
 use Rattle.louds.proofs.select.picked.Goals as goal
 
 pub returns-then-j-eq0 : goal.returns-then-j-eq0

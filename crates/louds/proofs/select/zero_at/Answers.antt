@@ -1,5 +1,5 @@
 -- `louds::select::zero_at` meets its contract: the zeros from place 0 on are all of them. Assumes nothing.
-use Rattle.std.proofs.Common.{◌∙◌, rules}
+use Rattle.std.proofs.Common.{◌∙◌}
 use Rattle.keymap.specs.Bits.{bit}
 use Rattle.louds.specs.Rank.{gap}
 use Rattle.louds.proofs.Laws.Select.{kth-start}

@@ -1,5 +1,5 @@
 -- `louds::select::zero_from` meets its contract: one found in the first word is the answer; else the bits that equal 0 mark the zeros. Assumes nothing.
-use Rattle.std.proofs.Common.{ℕ, ◌+◌, ◌*◌, ◌/◌, min, sym, ap, ◌∙◌, rules}
+use Rattle.std.proofs.Common.{ℕ, ◌+◌, ◌*◌, ◌/◌, min, sym, ap, ◌∙◌}
 use native.Mathlib.Nat.{min-le_left}
 use Rattle.keymap.specs.Limits.{word_bits}
 use Rattle.keymap.specs.Bits.{bit}

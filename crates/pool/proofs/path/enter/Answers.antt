@@ -3,7 +3,6 @@
 use Prim.Native.Nat.{◌+◌}
 use mathlib.Core.Path.{◌≡◌, ◌∙◌}
 use native.Mathlib.Omega.{arith}
-use borrow.Author.Rules.{rules}
 use Rattle.records.specs.Words.{next_record}
 use Rattle.records.proofs.Laws.Words.{next_last}
 use Rattle.pool.proofs.Laws.Entering.{next-inside, prev-inside, node-inside, enter-steps}
@@ -23,6 +22,5 @@ shape_of-pool c = c.take.auto.pool ∙ c.link.auto.pool ∙ c.fill.auto.pool
 
 pub returns : goal.returns
 returns c =
-    
     let m : c.last_record-m.result + 1 ≡ next_record c.args.pool.now = omega (arith, c.last_record-m.ensures, next_last c.args.pool.now) in
     (m, enter-steps _ _ _ _ _ m c.slot_of-s.ensures _ _ _ c.fill.ensures c.link.ensures c.take.ensures)

@@ -1,8 +1,5 @@
-use Prim.Native.Nat.{◌≤◌, ◌-◌}
-use mathlib.Core.Path.{◌≡◌, refl, sym, ◌∙◌}
+use mathlib.Core.Path.{refl, sym, ◌∙◌}
 use native.Mathlib.Omega.{arith}
-use lib.ListN.{length, drop}
-use Rattle.pool.specs.Entering.{CanEnterAll, entered_all, last_entered}
 use Rattle.pool.proofs.Laws.Entering.{enter-all-end, last-entered-end, enter-all-step, last-entered-step, can-enter-here, can-enter-on}
 use Rattle.pool.proofs.path.enter_all.Goals as goal
 

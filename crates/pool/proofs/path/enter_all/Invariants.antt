@@ -1,11 +1,9 @@
 -- `pool::path::enter_all` meets its contract. The invariant: the bytes that remain can be entered below the record reached, and entering them gives what was to be.
 -- The measure is the bytes that remain. Assumes nothing.
 use Prim.Native.Nat.{◌≤◌, ◌-◌}
-use mathlib.Core.Path.{◌≡◌, refl, sym, ◌∙◌}
-use native.Mathlib.Omega.{arith}
+use mathlib.Core.Path.{◌≡◌}
 use lib.ListN.{length, drop}
 use Rattle.pool.specs.Entering.{CanEnterAll, entered_all, last_entered}
-use Rattle.pool.proofs.Laws.Entering.{enter-all-end, last-entered-end, enter-all-step, last-entered-step, can-enter-here, can-enter-on}
 use Rattle.pool.proofs.path.enter_all.Given as goal
 
 abbrev pub invariant-loop-d : goal.invariant-loop-d

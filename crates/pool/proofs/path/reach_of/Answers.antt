@@ -1,9 +1,5 @@
-use Prim.Native.Nat.{◌≤◌, ◌-◌}
-use mathlib.Core.Path.{◌≡◌, sym, ◌∙◌}
+use mathlib.Core.Path.{sym, ◌∙◌}
 use native.Mathlib.Omega.{arith}
-use lib.ListN.{length, drop}
-use borrow.Author.Rules.{rules}
-use Rattle.pool.specs.Path.{reach_from, reach_of}
 use Rattle.pool.proofs.Laws.Path.{reach-of-start, reach-end, reach-none, reach_step}
 use Rattle.pool.proofs.path.reach_of.Goals as goal
 

@@ -1,12 +1,9 @@
 -- `pool::path::reach_of` meets its contract. The invariant: the key reaches what its remaining bytes reach from here on.
 -- The measure is the bytes that remain. Assumes nothing.
 use Prim.Native.Nat.{◌≤◌, ◌-◌}
-use mathlib.Core.Path.{◌≡◌, sym, ◌∙◌}
-use native.Mathlib.Omega.{arith}
+use mathlib.Core.Path.{◌≡◌}
 use lib.ListN.{length, drop}
-use borrow.Author.Rules.{rules}
 use Rattle.pool.specs.Path.{reach_from, reach_of}
-use Rattle.pool.proofs.Laws.Path.{reach-of-start, reach-end, reach-none, reach_step}
 use Rattle.pool.proofs.path.reach_of.Given as goal
 
 abbrev pub invariant-loop-depth : goal.invariant-loop-depth

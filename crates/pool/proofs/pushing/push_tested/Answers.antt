@@ -3,7 +3,6 @@ use mathlib.Core.Path.{refl, ap₂, ◌∙◌}
 use Prim.Native.Nat.{ℕ, ◌+◌, ◌-◌, ◌≤◌}
 use native.Mathlib.Omega.{arith}
 use lib.ListN.{length}
-use borrow.Author.Rules.{rules}
 use Rattle.keymap.specs.Key.{Bytes}
 use Rattle.records.specs.Words.{Pool, used_count, capacity}
 use Rattle.pool.specs.declared.answers.Pushed.{Pushed}
@@ -17,7 +16,7 @@ bytes : (c : After-reach_of-reach) → Bytes c.args.key.now
 bytes c = bytes-from c.args.key.now (λ i. omega (arith, c.type_inv.key i))
 
 room : (c : Else-most-needed)
-    → 
+    →
     used_count c.args.pool.now + (length c.args.key.now - c.reach_of-reach.result.depth) ≤ capacity c.args.pool.now
 room c = omega (arith, c.used_count.ensures, c.capacity_of-most.ensures, c.if-most-needed.false)
 
@@ -40,7 +39,6 @@ enter_all-end-requires c =
 
 pub mark-requires : goal.mark-requires
 mark-requires c =
-    
     end-inside _ _ c.args.value c.requires _ c.reach_of-reach.ensures (bytes (goal.at.mark-requires c).After-reach_of-reach) c.if-key-eq0.false (room (goal.at.mark-requires c).Else-most-needed) _ _ c.enter_all-end.ensures.1 c.enter_all-end.ensures.0
 
 pub shape_of-pool : goal.shape_of-pool
@@ -48,6 +46,4 @@ shape_of-pool c = c.mark.auto.pool ∙ c.enter_all-end.auto.pool
 
 pub returns : goal.returns
 returns c =
-    
-    
     done-accepted _ _ _ c.requires _ c.reach_of-reach.ensures (bytes (goal.at.returns c).After-reach_of-reach) c.if-key-eq0.false (room (goal.at.returns c).Else-most-needed) _ (c.mark.ensures ∙ ap₂ (λ (q : Pool) (t : ℕ). marked q t c.args.value) c.enter_all-end.ensures.1 c.enter_all-end.ensures.0)

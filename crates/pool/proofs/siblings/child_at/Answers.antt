@@ -1,6 +1,5 @@
 -- `pool::siblings::child_at` meets its contract: the test says which case of `child_at` holds. Assumes nothing.
 use native.Mathlib.Omega.{arith}
-use borrow.Author.Rules.{rules}
 use Rattle.pool.proofs.Laws.Siblings.{child-here, child-none}
 use Rattle.pool.proofs.siblings.child_at.Goals as goal
 

@@ -1,7 +1,5 @@
-use mathlib.Core.Path.{◌≡◌, sym, ◌∙◌}
+use mathlib.Core.Path.{sym, ◌∙◌}
 use native.Mathlib.Omega.{arith}
-use borrow.Author.Rules.{rules}
-use Rattle.pool.specs.Siblings.{slot_from, slot_of}
 use Rattle.pool.proofs.Laws.Siblings.{slot-of-start, slot-from-out, slot-from-end, slot-from-here, slot-from-step}
 use Rattle.pool.proofs.siblings.slot_of.Goals as goal
 

@@ -1,10 +1,7 @@
 -- `pool::siblings::slot_of` meets its contract. The invariant: the slot is what the search finds from here on.
 -- Each turn takes one of the steps that are left. Assumes nothing.
-use mathlib.Core.Path.{◌≡◌, sym, ◌∙◌}
-use native.Mathlib.Omega.{arith}
-use borrow.Author.Rules.{rules}
+use mathlib.Core.Path.{◌≡◌}
 use Rattle.pool.specs.Siblings.{slot_from, slot_of}
-use Rattle.pool.proofs.Laws.Siblings.{slot-of-start, slot-from-out, slot-from-end, slot-from-here, slot-from-step}
 use Rattle.pool.proofs.siblings.slot_of.Given as goal
 
 abbrev pub invariant-loop-left : goal.invariant-loop-left

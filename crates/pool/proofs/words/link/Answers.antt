@@ -1,6 +1,5 @@
 -- `pool::words::link` meets its contract: the test says which case of `linked` holds. Assumes nothing.
 use mathlib.Core.Path.{sym, ◌∙◌}
-use borrow.Author.Rules.{rules}
 use Rattle.pool.proofs.Laws.Writing.{linked-first, linked-next}
 use Rattle.pool.proofs.words.link.Goals as goal
 

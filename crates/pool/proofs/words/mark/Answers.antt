@@ -1,6 +1,5 @@
 -- `pool::words::mark` meets its contract. Assumes nothing.
 use mathlib.Core.Path.{◌∙◌}
-use borrow.Author.Rules.{rules}
 use Rattle.pool.specs.Writing.{marked}
 use Rattle.pool.proofs.words.mark.Goals as goal
 

@@ -1,6 +1,5 @@
 -- `pool::words::set_word` meets its contract. Assumes nothing.
 use mathlib.Core.Path.{refl}
-use borrow.Author.Rules.{rules}
 use Rattle.records.specs.Words.{put}
 use Rattle.pool.proofs.words.set_word.Goals as goal
 

@@ -1,5 +1,4 @@
 -- `pool::words::take` meets its contract. Assumes nothing.
-use borrow.Author.Rules.{rules}
 use Rattle.records.specs.Words.{taken}
 use Rattle.pool.proofs.words.take.Goals as goal
 

@@ -1,10 +1,8 @@
-use Prim.Native.Nat.{suc, ◌+◌, ◌-◌, ◌≤◌}
+use Prim.Native.Nat.{suc}
 use mathlib.Core.Path.{◌≡◌, sym, ◌∙◌, ap}
 use native.Mathlib.Omega.{arith}
 use native.Mathlib.Numerals.{add-one}
-use borrow.Author.Rules.{rules}
-use Rattle.records.specs.SoundTest.{pass_rest, none_left}
-use Rattle.records.specs.declared.soundness.Rest.TheVariants.{Left}
+use Rattle.records.specs.SoundTest.{none_left}
 use Rattle.records.proofs.Laws.SoundTest.{pass-start, pass-more, pass-broken}
 use Rattle.records.proofs.soundness.all_records.Goals as goal
 

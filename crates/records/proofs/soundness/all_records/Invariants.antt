@@ -1,13 +1,9 @@
 -- `records::soundness::all_records` meets its contract. The invariant: so many are left after the records below c; the measure is the records that remain.
 -- Assumes nothing.
-use Prim.Native.Nat.{suc, ◌+◌, ◌-◌, ◌≤◌}
-use mathlib.Core.Path.{◌≡◌, sym, ◌∙◌, ap}
-use native.Mathlib.Omega.{arith}
-use native.Mathlib.Numerals.{add-one}
-use borrow.Author.Rules.{rules}
-use Rattle.records.specs.SoundTest.{pass_rest, none_left}
+use Prim.Native.Nat.{◌+◌, ◌-◌, ◌≤◌}
+use mathlib.Core.Path.{◌≡◌}
+use Rattle.records.specs.SoundTest.{pass_rest}
 use Rattle.records.specs.declared.soundness.Rest.TheVariants.{Left}
-use Rattle.records.proofs.Laws.SoundTest.{pass-start, pass-more, pass-broken}
 use Rattle.records.proofs.soundness.all_records.Given as goal
 
 abbrev pub invariant-loop-c : goal.invariant-loop-c

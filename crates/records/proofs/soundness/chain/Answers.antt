@@ -1,9 +1,4 @@
-use mathlib.Core.Path.{◌≡◌, sym, ◌∙◌}
-use native.Mathlib.Omega.{arith}
-use borrow.Author.Tests.{not-true, not-false}
-use borrow.Author.Rules.{rules}
-use Rattle.records.specs.SoundTest.{chain_rest}
-use Rattle.records.specs.Words.{first_child}
+use mathlib.Core.Path.{sym, ◌∙◌}
 use Rattle.records.proofs.Laws.SoundTest.{chain-rest-end, chain-rest-full, chain-rest-stray, chain-rest-step}
 use Rattle.records.proofs.soundness.chain.Goals as goal
 

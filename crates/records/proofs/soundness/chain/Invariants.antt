@@ -1,12 +1,8 @@
 -- `records::soundness::chain` meets its contract. The invariant: what is left after the whole chain is what is left after the rest of it.
 -- Each turn counts one record off. Assumes nothing.
-use mathlib.Core.Path.{◌≡◌, sym, ◌∙◌}
-use native.Mathlib.Omega.{arith}
-use borrow.Author.Tests.{not-true, not-false}
-use borrow.Author.Rules.{rules}
+use mathlib.Core.Path.{◌≡◌}
 use Rattle.records.specs.SoundTest.{chain_rest}
 use Rattle.records.specs.Words.{first_child}
-use Rattle.records.proofs.Laws.SoundTest.{chain-rest-end, chain-rest-full, chain-rest-stray, chain-rest-step}
 use Rattle.records.proofs.soundness.chain.Given as goal
 
 abbrev pub invariant-loop-x : goal.invariant-loop-x

@@ -1,7 +1,6 @@
 -- `records::soundness::is_child` meets its contract: at each return the tests that led there say which case of `is_child` holds. Assumes nothing.
 use mathlib.Core.Path.{sym, ◌∙◌}
 use borrow.Author.Tests.{le-leb, lt-leb, eq-eqb, ne_eqb}
-use borrow.Author.Rules.{rules}
 use Rattle.records.specs.SoundTest.{both, is_child}
 use Rattle.records.proofs.soundness.is_child.Goals as goal
 

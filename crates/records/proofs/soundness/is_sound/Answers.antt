@@ -1,8 +1,6 @@
 -- `records::soundness::is_sound` meets its contract: at each return the tests that led there say which case of `sound_test` holds, and the test is true exactly of a sound pool. Assumes nothing.
 use mathlib.Core.Path.{sym, ◌∙◌}
 use native.Mathlib.Omega.{arith}
-use borrow.Author.Tests.{not-true, not-false}
-use borrow.Author.Rules.{rules}
 use Rattle.records.proofs.Laws.SoundTest.{sound-short, root-fits-within, sound-root, sound-pass, said-means-sound}
 use Rattle.records.proofs.soundness.is_sound.Goals as goal
 

@@ -1,7 +1,5 @@
 -- `records::soundness::record_and_chain` meets its contract: a record that does not fit breaks the pass, and else its chain decides. Assumes nothing.
 use mathlib.Core.Path.{sym, ◌∙◌}
-use borrow.Author.Tests.{not-true, not-false}
-use borrow.Author.Rules.{rules}
 use Rattle.records.proofs.Laws.SoundTest.{record-rest-unfit, record-rest-fit}
 use Rattle.records.proofs.soundness.record_and_chain.Goals as goal
 

@@ -1,5 +1,4 @@
 -- `records::soundness::record_fits` meets its contract: the five words read are the record's. Assumes nothing.
-use borrow.Author.Rules.{rules}
 use Rattle.records.specs.SoundTest.{record_fits}
 use Rattle.records.proofs.soundness.record_fits.Goals as goal
 

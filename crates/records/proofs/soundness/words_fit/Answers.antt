@@ -1,6 +1,5 @@
 -- `records::soundness::words_fit` meets its contract: at each return the tests that led there say which case of `words_fit` holds. Assumes nothing.
 use borrow.Author.Tests.{le-ltb, lt-ltb, le-leb, lt-leb, eq-eqb, ne_eqb}
-use borrow.Author.Rules.{rules}
 use Rattle.records.specs.SoundTest.{both, words_fit}
 use Rattle.records.proofs.soundness.words_fit.Goals as goal
 

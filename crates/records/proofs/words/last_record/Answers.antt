@@ -1,5 +1,4 @@
 -- `records::words::last_record` meets its contract. Assumes nothing.
-use borrow.Author.Rules.{rules}
 use Rattle.records.specs.Words.{last_record}
 use Rattle.records.proofs.words.last_record.Goals as goal
 

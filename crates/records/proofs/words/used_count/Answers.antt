@@ -1,6 +1,5 @@
 -- `records::words::used_count` meets its contract. Assumes nothing.
 use mathlib.Core.Path.{sym, ◌∙◌}
-use borrow.Author.Rules.{rules}
 use Rattle.records.proofs.Laws.Words.{count-last}
 use Rattle.records.proofs.words.used_count.Goals as goal
 

@@ -1,7 +1,6 @@
 -- `records::words::word_at` meets its contract: inside the pool it reads the word, and beyond it `word` is 0. Assumes nothing.
 -- `records::words::word_at` meets its contract: inside the pool it reads the word, and beyond it `word` is 0. Assumes nothing.
 use mathlib.Core.Path.{refl, sym}
-use borrow.Author.Rules.{rules}
 use Rattle.records.specs.Words.{word}
 use Rattle.records.proofs.Laws.Words.{word-beyond}
 use Rattle.records.proofs.words.word_at.Goals as goal

@@ -1,6 +1,5 @@
 -- `walks::entries::is_node` meets its contract: the nodes are numbered from 1 to n + 1. Assumes nothing.
 use mathlib.Core.Path.{sym}
-use borrow.Author.Rules.{rules}
 use lib.ListN.{length}
 use Rattle.walks.proofs.Laws.Rule.{is_node_of-zero, is_node_of-upto}
 use Rattle.walks.proofs.entries.is_node.Goals as goal

@@ -3,7 +3,6 @@ use mathlib.Core.Path.{sym, ap}
 use Prim.Native.Nat.{◌<◌, ◌-◌}
 use native.Mathlib.Omega.{arith}
 use lib.ListN.{get_or, get_or-eq_default}
-use borrow.Author.Rules.{rules}
 use Rattle.keymap.specs.Label.{mark}
 use Rattle.walks.specs.Stands.{held_of}
 use Rattle.walks.proofs.Laws.Rule.{value_of_node-root, value_of_node-short, value_of_node-plain, value_of_node-large, value_of_node-held}

@@ -3,10 +3,9 @@ use Prim.Native.Nat.{◌+◌, ◌-◌, ◌≤◌, ◌<◌}
 use native.Mathlib.Omega.{arith}
 use mathlib.Core.Bool.{true}
 use lib.ListN.{length}
-use borrow.Author.Rules.{rules}
 use Rattle.keymap.specs.Bits.{bit}
 use Rattle.walks.specs.declared.stands.Stand.{Stand}
-use Rattle.walks.specs.Glide.{goes_through, only_kid, glides, glided_from}
+use Rattle.walks.specs.Glide.{goes_through, only_kid, glides}
 use Rattle.walks.proofs.Laws.Glide.{through-told, onward-to, onward-end, glided-starts, glides-end, glides-on}
 use Rattle.walks.proofs.glide.glide.Goals.{In-To}
 use Rattle.walks.proofs.glide.glide.Goals as goal

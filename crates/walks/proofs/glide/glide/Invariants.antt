@@ -1,14 +1,9 @@
 -- `walks::glide::glide` meets its contract. The invariant: the glide from the first stand is the one that goes on from here, and each step led to a higher number. Assumes nothing.
-use mathlib.Core.Path.{◌≡◌, sym, ap, ◌∙◌}
-use Prim.Native.Nat.{◌+◌, ◌-◌, ◌≤◌, ◌<◌}
-use native.Mathlib.Omega.{arith}
-use mathlib.Core.Bool.{true}
+use mathlib.Core.Path.{◌≡◌}
+use Prim.Native.Nat.{◌+◌, ◌-◌, ◌≤◌}
 use lib.ListN.{length}
-use borrow.Author.Rules.{rules}
 use Rattle.keymap.specs.Bits.{bit}
-use Rattle.walks.specs.declared.stands.Stand.{Stand}
-use Rattle.walks.specs.Glide.{goes_through, only_kid, glides, glided_from}
-use Rattle.walks.proofs.Laws.Glide.{through-told, onward-to, onward-end, glided-starts, glides-end, glides-on}
+use Rattle.walks.specs.Glide.{glides, glided_from}
 use Rattle.walks.proofs.glide.glide.Given as goal
 
 abbrev pub invariant-loop-t : goal.invariant-loop-t

@@ -2,8 +2,6 @@
 use mathlib.Core.Path.{◌≡◌, sym, ap, ◌∙◌}
 use mathlib.Core.Option.{none}
 use lib.ListN.{length}
-use borrow.Author.Rules.{rules}
-use borrow.Author.Tests.{not-true, not-false}
 use Rattle.keymap.specs.Bits.{bit}
 use Rattle.walks.specs.declared.answers.Kids.{Kids}
 use Rattle.walks.specs.declared.moves.Reached.TheVariants.{To}

@@ -2,13 +2,12 @@
 use mathlib.Core.Path.{◌≡◌, sym, ap, ap₂, subst, ◌∙◌}
 use Prim.Native.Nat.{ℕ, ◌+◌, ◌-◌}
 use native.Mathlib.Omega.{arith}
-use borrow.Author.Rules.{rules}
 use Rattle.keymap.specs.Bits.{bit}
 use Rattle.walks.specs.declared.entries.Child.{Child}
 use Rattle.walks.specs.declared.answers.Kids.{Kids}
 use Rattle.walks.specs.declared.moves.Reached.TheVariants.{To}
 use Rattle.walks.specs.Rule.{lowest_by}
-use Rattle.walks.specs.Stands.{kids_from, kid_from, child_of, down_from}
+use Rattle.walks.specs.Stands.{kids_from, kid_from, child_of}
 use Rattle.walks.proofs.Laws.Rule.{lowest_by-end}
 use Rattle.walks.proofs.Laws.Stands.{Numbered, kids-numbered, child_of-node, child_of-absent, down_from-there, down_from-absent}
 use Rattle.walks.proofs.moves.down.Goals.{After-child_within, After-kids-k}

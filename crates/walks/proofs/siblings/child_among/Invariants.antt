@@ -1,11 +1,7 @@
 -- `walks::siblings::child_among` meets its contract. The invariant: what is answered is what those from `at` on answer. Assumes nothing.
-use mathlib.Core.Path.{◌≡◌, sym, ap, ◌∙◌}
+use mathlib.Core.Path.{◌≡◌}
 use Prim.Native.Nat.{◌+◌, ◌-◌, ◌≤◌}
-use native.Mathlib.Omega.{arith}
-use borrow.Author.Rules.{rules}
 use Rattle.walks.specs.Rule.{lowest_by}
-use Rattle.walks.specs.Stands.{child_of}
-use Rattle.walks.proofs.Laws.Siblings.{among-start, among-here, among-past, among-end}
 use Rattle.walks.proofs.siblings.child_among.Given as goal
 
 abbrev pub invariant-loop-at : goal.invariant-loop-at

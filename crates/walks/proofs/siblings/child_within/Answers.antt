@@ -2,7 +2,6 @@
 use mathlib.Core.Path.{◌≡◌, sym, ap, ◌∙◌}
 use Prim.Native.Nat.{◌+◌, ◌-◌}
 use native.Mathlib.Omega.{arith}
-use borrow.Author.Rules.{rules}
 use Rattle.walks.specs.Rule.{lowest_by}
 use Rattle.walks.specs.Stands.{child_of}
 use Rattle.walks.proofs.Laws.Siblings.{among-start, among-here, among-past, among-end}

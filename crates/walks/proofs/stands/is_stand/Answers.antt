@@ -1,7 +1,6 @@
 -- `walks::stands::is_stand` meets its contract: each test is one of the definition's. Assumes nothing.
 use mathlib.Core.Path.{sym}
 use native.Mathlib.Omega.{arith}
-use borrow.Author.Rules.{rules}
 use Rattle.walks.proofs.Laws.Stands.{is_stand-far, is_stand-zero, is_stand-node}
 use Rattle.walks.proofs.stands.is_stand.Goals as goal
 

@@ -1,7 +1,6 @@
 -- `walks::stands::kid_at` meets its contract: the 0-th zero is missing, so a number below the node's own ends at the end. Assumes nothing.
 use mathlib.Core.Path.{◌≡◌, sym}
 use Prim.Native.Nat.{◌-◌}
-use borrow.Author.Rules.{rules}
 use Rattle.keymap.specs.Bits.{bit}
 use Rattle.louds.specs.Select.{zero_from}
 use Rattle.louds.specs.Nodes.{or_end}

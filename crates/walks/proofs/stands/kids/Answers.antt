@@ -3,10 +3,8 @@ use mathlib.Core.Path.{◌≡◌, sym, ◌∙◌}
 use Prim.Native.Nat.{◌+◌, ◌-◌}
 use native.Mathlib.Omega.{arith}
 use mathlib.Core.Bool.{true}
-use borrow.Author.Rules.{rules}
-use borrow.Author.Tests.{not-true, not-false}
 use Rattle.keymap.specs.Bits.{bit}
-use Rattle.walks.specs.Stands.{is_stand, next_zero, kids_from}
+use Rattle.walks.specs.Stands.{is_stand, next_zero}
 use Rattle.walks.proofs.Laws.Stands.{is_stand-told, next_zero-ahead, kids_from-none, kids_from-some}
 use Rattle.walks.proofs.stands.kids.Goals.{After-struct_known-2-1, Else-not-is_stand}
 use Rattle.walks.proofs.stands.kids.Goals as goal

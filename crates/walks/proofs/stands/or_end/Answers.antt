@@ -1,6 +1,5 @@
 -- `walks::stands::or_end` meets its contract: the two arms are the definition's. Assumes nothing.
 use mathlib.Core.Path.{sym, ap}
-use borrow.Author.Rules.{rules}
 use Rattle.louds.specs.Nodes.{or_end}
 use Rattle.walks.proofs.stands.or_end.Goals as goal
 

@@ -1,6 +1,5 @@
 -- `walks::stands::stand_at` meets its contract: the zero is the definition's. Assumes nothing.
 use mathlib.Core.Path.{◌≡◌}
-use borrow.Author.Rules.{rules}
 use Rattle.keymap.specs.Bits.{bit}
 use Rattle.louds.specs.Select.{zero_at}
 use Rattle.louds.specs.Nodes.{or_end}

@@ -18,14 +18,13 @@ use mathlib.Core.List.{List, head?}
 use mathlib.Core.Option.{Option, none, some}
 use lib.ListN.{length}
 use borrow.Author.Tests.{lt-ltb, le-ltb, eq-eqb, ne_eqb}
-use Rattle.keymap.specs.Members.{In}
 use Rattle.keymap.specs.Answers.{given}
 use Rattle.keymap.specs.Key.{Key, extends}
 use Rattle.keymap.specs.Map.{Map, lookup}
 use Rattle.keymap.specs.Queries.{nonempty, beginning}
 use Rattle.keymap.specs.Bits.{bit}
 use Rattle.keymap.specs.Image.{Image, bits_for}
-use Rattle.keymap.specs.Paths.{nodes, IsNode, is_node, path_of, node_of}
+use Rattle.keymap.specs.Paths.{IsNode, is_node, path_of, node_of}
 use Rattle.keymap.specs.Decode.{image_map}
 use Rattle.keymap.proofs.Laws.Begins.{extends-own}
 use Rattle.keymap.proofs.Laws.Paths.{is_node-iff, node_of-node, path_of-node_of, path_of-one}

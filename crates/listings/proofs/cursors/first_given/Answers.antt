@@ -1,8 +1,5 @@
 -- `listings::cursors::first_given` meets its contract: the top's own key comes first if it has a value, else the least above it. Assumes nothing.
 use mathlib.Core.Path.{sym, ap, ◌∙◌}
-use mathlib.Core.Option.{Option}
-use Prim.Native.Nat.{ℕ}
-use borrow.Author.Rules.{rules}
 use Rattle.keymap.specs.Bits.{bit}
 use Rattle.walks.specs.Rule.{value_of_node}
 use Rattle.walks.proofs.Laws.Stands.{held_of-value, held_of-none}

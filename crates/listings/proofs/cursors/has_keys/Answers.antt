@@ -2,7 +2,6 @@
 use mathlib.Core.Path.{sym, ap, ◌∙◌}
 use mathlib.Core.Bool.{Bool}
 use lib.Dec.{ltb}
-use borrow.Author.Rules.{rules}
 use Rattle.keymap.specs.Bits.{bit}
 use Rattle.walks.specs.declared.answers.Kids.{Kids}
 use Rattle.listings.specs.declared.answers.Kind.{Kind}

@@ -2,9 +2,6 @@
 -- Assumes nothing.
 use mathlib.Core.Path.{sym, ap, ◌∙◌}
 use mathlib.Core.Bool.{Bool}
-use mathlib.Core.Option.{Option}
-use Prim.Native.Nat.{ℕ}
-use borrow.Author.Rules.{rules}
 use Rattle.keymap.specs.Bits.{bit}
 use Rattle.walks.specs.Rule.{value_of_node}
 use Rattle.walks.proofs.Laws.Stands.{held_of-value, held_of-none}

@@ -1,7 +1,6 @@
 -- `listings::cursors::next_given` meets its contract: behind a key given both kinds go on alike; a fresh cursor begins with the first of its set.
 -- Assumes nothing.
 use mathlib.Core.Path.{sym, ap, ◌∙◌}
-use borrow.Author.Rules.{rules}
 use Rattle.keymap.specs.Bits.{bit}
 use Rattle.climbs.specs.Order.{given_of}
 use Rattle.listings.proofs.Laws.Numbers.{next_given_by-later, next_given_by-predictive, next_given_by-postfix}

@@ -2,9 +2,6 @@
 use mathlib.Core.Path.{◌≡◌, sym, ap, ◌∙◌}
 use mathlib.Core.Bool.{true}
 use mathlib.Core.List.{◌∷◌}
-use borrow.Author.Rules.{rules}
-use borrow.Author.Tests.{not-true, not-false}
-use Rattle.keymap.specs.Image.{Image}
 use Rattle.image.specs.AcceptTest.{image_test}
 use Rattle.image.specs.Meaning.{image_in, MapImage}
 use Rattle.image.proofs.Laws.Meaning.{tested-map_image}
@@ -31,5 +28,7 @@ whole c =
 
 pub returns : goal.returns
 returns c =
-    record { answer = ap (λ (d : Cursor). 0 ∷ said_cursor d) (c.start.ensures ∙ start-path (image_in c.args.labels c.args.values c.args.words) (whole (goal.at.returns c).Else-not-is_image) Postfix c.args.query.now)
-    ∙ sym (start_says-accepted (image_in c.args.labels c.args.values c.args.words) Postfix c.args.query.now (tested (goal.at.returns c).Else-not-is_image)) }
+    record {
+      answer = ap (λ (d : Cursor). 0 ∷ said_cursor d) (c.start.ensures ∙ start-path (image_in c.args.labels c.args.values c.args.words) (whole (goal.at.returns c).Else-not-is_image) Postfix c.args.query.now)
+          ∙ sym (start_says-accepted (image_in c.args.labels c.args.values c.args.words) Postfix c.args.query.now (tested (goal.at.returns c).Else-not-is_image));
+    }

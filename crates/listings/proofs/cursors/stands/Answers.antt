@@ -2,8 +2,6 @@
 use mathlib.Core.Path.{◌≡◌, sym, ◌∙◌}
 use mathlib.Core.Bool.{true}
 use lib.ListN.{length}
-use borrow.Author.Rules.{rules}
-use borrow.Author.Tests.{not-true, not-false}
 use Rattle.keymap.specs.Bits.{bit}
 use Rattle.walks.specs.Rule.{is_node_of}
 use Rattle.listings.proofs.Laws.Numbers.{stands_by-no-top, stands_by-fresh, stands_by-no-last, stands_by-last}

@@ -4,9 +4,7 @@ use mathlib.Core.Path.{◌≡◌, sym, ap, ◌∙◌}
 use Prim.Native.Nat.{ℕ}
 use native.Mathlib.Omega.{arith}
 use mathlib.Core.Bool.{Bool, cond}
-use mathlib.Core.Option.{Option}
 use borrow.Author.Rules.{rules}
-use borrow.Author.Tests.{not-true, not-false}
 use Rattle.keymap.specs.Bits.{bit}
 use Rattle.walks.specs.Rule.{walked}
 use Rattle.walks.proofs.Laws.Stands.{ReachedTold, reached_at-to, reached_at-lost}
@@ -29,8 +27,7 @@ returns-in_default c =
 
 -- where the walk ended
 there : (c : In-To)
-    → 
-    ReachedTold (bit c.args.words.now) c.args.len (walked c.args.labels.now (bit c.args.words.now) c.args.len c.args.query.now) c.in-To.s
+    → ReachedTold (bit c.args.words.now) c.args.len (walked c.args.labels.now (bit c.args.words.now) c.args.len c.args.query.now) c.in-To.s
 there c = reached_at-to _ _ (walked c.args.labels.now (bit c.args.words.now) c.args.len c.args.query.now) _ (sym c.walk.ensures ∙ c.in-To.is)
 
 pub returns-then-s-gt-MOST_NUMBER : goal.returns-then-s-gt-MOST_NUMBER

@@ -1,31 +1,33 @@
 -- `listings::cursors::step` meets its contract: of an image that no map has it answers 6; a finished cursor ends; of one that does not belong it answers 7;
 -- else what `next_given` gives. Assumes nothing.
 use mathlib.Core.Path.{◌≡◌, sym, ap, ◌∙◌}
-use Prim.Native.Nat.{ℕ, ◌+◌, ◌≤◌}
+use Prim.Native.Nat.{◌+◌, ◌≤◌}
 use native.Mathlib.Omega.{arith}
 use mathlib.Core.Bool.{true}
 use mathlib.Core.List.{◌∷◌}
 use mathlib.Core.Option.{Option}
 use borrow.Author.Rules.{rules}
-use borrow.Author.Tests.{not-true, not-false}
 use Rattle.keymap.specs.Limits.{most_records}
-use Rattle.keymap.specs.Image.{Image}
+use Rattle.keymap.specs.Bits.{bit}
+use Rattle.keymap.specs.Image.{Image, bits_for}
 use Rattle.keymap.specs.Map.{Entry, Map}
 use Rattle.keymap.specs.Paths.{IsNode, path_of}
 use Rattle.keymap.specs.Decode.{image_map}
+use Rattle.image.specs.Accept.{entries}
 use Rattle.image.specs.AcceptTest.{image_test}
 use Rattle.image.specs.Meaning.{image_in, MapImage}
 use Rattle.image.proofs.Laws.Meaning.{tested-map_image}
-use Rattle.climbs.specs.Order.{given_by}
-use Rattle.listings.specs.declared.answers.Kind.{Kind}
+use Rattle.climbs.specs.Order.{given_by, given_of}
+use Rattle.climbs.specs.declared.order.Given.{Given}
 use Rattle.listings.specs.declared.answers.Cursor.{Cursor}
 use Rattle.listings.specs.declared.answers.Cursor.TheVariants.{Open}
 use Rattle.listings.specs.Answers.{said_cursor}
 use Rattle.listings.specs.Cursors.{set_of, belongs, next_in, says_step, step_says}
+use Rattle.listings.specs.Numbers.{next_given_by}
 use Rattle.walks.proofs.Laws.MapImage.{length-nodes}
 use Rattle.listings.proofs.Laws.Cursors.{step_says-refused, step_says-finished, step_says-bad, step_says-open, says_step-entry, says_step-nothing, given_inside}
 use Rattle.listings.proofs.Laws.Numbers.{stands-path, given-path}
-use Rattle.listings.proofs.cursors.step.Goals.{After-next_given, Else-not-is_image, Else-not-stands, In-Entry}
+use Rattle.listings.proofs.cursors.step.Goals.{Else-not-is_image, Else-not-stands, In-Entry}
 use Rattle.listings.proofs.cursors.step.Goals as goal
 
 pub returns-then-not-is_image : goal.returns-then-not-is_image
@@ -43,54 +45,63 @@ whole c =
 
 pub returns-in_default : goal.returns-in_default
 returns-in_default c =
-    let said = let i = image_in c.args.labels c.args.values c.args.words in
-    ap (λ (d : Cursor). 0 ∷ 0 ∷ said_cursor d) c.in_default.is
-    ∙ sym (ap (step_says i) c.in_default.is ∙ step_says-finished i _ (tested (goal.at.returns-in_default c).Else-not-is_image)) in
-    record { answer = said }
+    let i = image_in c.args.labels c.args.values c.args.words in
+    record {
+      answer =
+          ap (λ (d : Cursor). 0 ∷ 0 ∷ said_cursor d) c.in_default.is
+          ∙ sym (ap (step_says i) c.in_default.is ∙ step_says-finished i _ (tested (goal.at.returns-in_default c).Else-not-is_image));
+    }
 
 pub returns-then-not-stands : goal.returns-then-not-stands
 returns-then-not-stands c =
-    let said = let i = image_in c.args.labels c.args.values c.args.words in
-    sym
-    (ap (step_says i) c.in-Open.is
-    ∙ step_says-bad i _ _ _ (tested (goal.at.returns-then-not-stands c).Else-not-is_image)
-    (sym (stands-path i (whole (goal.at.returns-then-not-stands c).Else-not-is_image) _ _ _) ∙ sym c.stands.ensures ∙ c.if-not-stands.true)) in
-    record { answer = said }
+    let p = (goal.at.returns-then-not-stands c).Else-not-is_image in
+    let i = image_in c.args.labels c.args.values c.args.words in
+    record {
+      answer = sym
+          (ap (step_says i) c.in-Open.is
+          ∙ step_says-bad i _ _ _ (tested p) (sym (stands-path i (whole p) _ _ _) ∙ sym c.stands.ensures ∙ c.if-not-stands.true));
+    }
 
--- the cursor's numbers, and what its next step gives
-abbrev kind_at : Else-not-stands → Kind
-kind_at c = c.before.before.before.cursor.given.0.0
+-- the image, its map, and what the cursor's next step gives
+abbrev image_at : Else-not-stands → Image
+image_at c = image_in c.args.labels c.args.values c.args.words
 
-abbrev top_at : Else-not-stands → ℕ
-top_at c = c.before.before.before.cursor.given.0.1.0
-
-abbrev last_at : Else-not-stands → ℕ
-last_at c = c.before.before.before.cursor.given.0.1.1.0
+abbrev map_at : Else-not-stands → Map
+map_at c = image_map (image_at c)
 
 abbrev next_at : Else-not-stands → Option Entry
-next_at c = let m = image_map (image_in c.args.labels c.args.values c.args.words) in next_in m (set_of m (kind_at c) (path_of m (top_at c))) (last_at c)
+next_at c = next_in (map_at c) (set_of (map_at c) c.in-Open.kind (path_of (map_at c) c.in-Open.top)) c.in-Open.last
 
--- they belong
-belonging : (c : Else-not-stands) → belongs (image_map (image_in c.args.labels c.args.values c.args.words)) (Open (kind_at c) (top_at c) (last_at c)) ≡ true
+-- the cursor's numbers belong
+belonging : (c : Else-not-stands) → belongs (map_at c) (Open c.in-Open.kind c.in-Open.top c.in-Open.last) ≡ true
 belonging c =
-    sym (stands-path _ (whole (goal.at.overflow_cast-top c).Else-not-is_image) (kind_at c) (top_at c) (last_at c)) ∙ sym c.stands.ensures ∙ c.if-not-stands.false
+    sym (stands-path _ (whole (goal.at.overflow_cast-top c).Else-not-is_image) c.in-Open.kind c.in-Open.top c.in-Open.last)
+    ∙ sym c.stands.ensures
+    ∙ c.if-not-stands.false
 
-says : (c : Else-not-stands) → step_says (image_in c.args.labels c.args.values c.args.words) c.args.cursor ≡ says_step (image_map (image_in c.args.labels c.args.values c.args.words)) (kind_at c) (top_at c) (next_at c)
+says : (c : Else-not-stands) → step_says (image_at c) c.args.cursor ≡ says_step (map_at c) c.in-Open.kind c.in-Open.top (next_at c)
 says c =
-    let i = image_in c.args.labels c.args.values c.args.words in
-    ap (step_says i) c.in-Open.is ∙ step_says-open i (kind_at c) (top_at c) (last_at c) (tested (goal.at.overflow_cast-top c).Else-not-is_image) (belonging c)
+    ap (step_says (image_at c)) c.in-Open.is
+    ∙ step_says-open (image_at c) c.in-Open.kind c.in-Open.top c.in-Open.last (tested (goal.at.overflow_cast-top c).Else-not-is_image) (belonging c)
 
 -- what was given is the next entry of the cursor's set
-gives : (c : After-next_given) → given_by (image_map (image_in c.args.labels c.args.values c.args.words)) (next_at c.before) ≡ c.next_given.result
-gives c =
-    sym (given-path _ (whole c.before) (kind_at c.before) (top_at c.before) (last_at c.before) (belonging c.before))
-    ∙ sym c.next_given.ensures
+abbrev given_at : Else-not-stands → Given
+given_at c =
+    let i = image_at c in
+    given_of (next_given_by i.labels i.values (bit i.words) (bits_for (entries i)) c.in-Open.kind c.in-Open.top c.in-Open.last)
+
+gives : (c : Else-not-stands) (result is : Given) → result ≡ given_at c → result ≡ is → given_by (map_at c) (next_at c) ≡ is
+gives c result is ensured matched =
+    sym (given-path _ (whole (goal.at.overflow_cast-top c).Else-not-is_image) c.in-Open.kind c.in-Open.top c.in-Open.last (belonging c))
+    ∙ sym ensured
+    ∙ matched
 
 -- the node given is a node, so that its number fits
 inside : (c : In-Entry) → IsNode (image_map (image_in c.args.labels c.args.values c.args.words)) c.in-Entry.node
 inside c =
-    let m = image_map (image_in c.args.labels c.args.values c.args.words) in
-    given_inside m (whole (goal.at.overflow_cast-result c).Else-not-is_image).catalogue.rising (kind_at (goal.at.overflow_cast-result c).Else-not-stands) (path_of m (top_at (goal.at.overflow_cast-result c).Else-not-stands)) (last_at (goal.at.overflow_cast-result c).Else-not-stands) _ _ (gives (goal.at.overflow_cast-result c).After-next_given ∙ c.in-Entry.is)
+    let b = (goal.at.overflow_cast-result c).Else-not-stands in
+    let rising = (whole (goal.at.overflow_cast-result c).Else-not-is_image).catalogue.rising in
+    given_inside (map_at b) rising b.in-Open.kind (path_of (map_at b) b.in-Open.top) b.in-Open.last _ _ (gives b _ _ c.next_given.ensures c.in-Entry.is)
 
 fits : (c : In-Entry) → c.in-Entry.node ≤ most_records + 1
 fits c =
@@ -105,18 +116,24 @@ overflow_cast-result-in-Entry c = omega (arith, fits c)
 
 pub returns-in-Entry : goal.returns-in-Entry
 returns-in-Entry c =
-    let said = sym
-    (says (goal.at.returns-in-Entry c).Else-not-stands
-    ∙ says_step-entry (image_map (image_in c.args.labels c.args.values c.args.words)) (kind_at (goal.at.returns-in-Entry c).Else-not-stands) (top_at (goal.at.returns-in-Entry c).Else-not-stands) (next_at (goal.at.returns-in-Entry c).Else-not-stands) _ _ (gives (goal.at.returns-in-Entry c).After-next_given ∙ c.in-Entry.is)) in
-    record { answer = said }
+    let b = (goal.at.returns-in-Entry c).Else-not-stands in
+    record {
+      answer = sym
+          (says b
+          ∙ says_step-entry (map_at b) b.in-Open.kind b.in-Open.top (next_at b) _ _ (gives b _ _ c.next_given.ensures c.in-Entry.is));
+    }
 
 pub returns-in-Nothing : goal.returns-in-Nothing
 returns-in-Nothing c =
-    let said = ap (λ (d : Cursor). 0 ∷ 0 ∷ said_cursor d) c.finished.ensures
-    ∙ sym
-    (says (goal.at.returns-in-Nothing c).Else-not-stands
-    ∙ says_step-nothing (image_map (image_in c.args.labels c.args.values c.args.words)) (kind_at (goal.at.returns-in-Nothing c).Else-not-stands) (top_at (goal.at.returns-in-Nothing c).Else-not-stands) (next_at (goal.at.returns-in-Nothing c).Else-not-stands) (gives (goal.at.returns-in-Nothing c).After-next_given ∙ c.in-Nothing.is)) in
-    record { answer = said }
+    let b = (goal.at.returns-in-Nothing c).Else-not-stands in
+    record {
+      answer =
+          ap (λ (d : Cursor). 0 ∷ 0 ∷ said_cursor d) c.finished.ensures
+          ∙ sym
+          (says b
+          ∙ says_step-nothing (map_at b) b.in-Open.kind b.in-Open.top (next_at b) (gives b _ _ c.next_given.ensures c.in-Nothing.is));
+    }
 
+-- asked here so that the laws above can look back from it
 pub overflow_cast-top : goal.overflow_cast-top
 overflow_cast-top c = search rules

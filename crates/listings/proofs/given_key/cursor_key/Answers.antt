@@ -7,27 +7,30 @@ use mathlib.Core.Bool.{true}
 use mathlib.Core.List.{List, [], ◌∷◌}
 use lib.ListN.{length}
 use borrow.Author.Rules.{rules}
-use borrow.Author.Tests.{not-true, not-false}
-use Rattle.keymap.specs.Image.{Image}
+use Rattle.keymap.specs.Bits.{bit}
+use Rattle.keymap.specs.Image.{Image, bits_for}
 use Rattle.keymap.specs.Decode.{image_map}
+use Rattle.image.specs.Accept.{entries}
 use Rattle.image.specs.AcceptTest.{image_test}
 use Rattle.image.specs.Meaning.{image_in, MapImage}
 use Rattle.image.proofs.Laws.Meaning.{tested-map_image}
-use Rattle.listings.specs.declared.answers.Kind.{Kind}
 use Rattle.listings.specs.declared.answers.Cursor.TheVariants.{Open}
 use Rattle.climbs.specs.Order.{UnderTop}
 use Rattle.climbs.proofs.Laws.Spelling.{spell-path}
 use Rattle.listings.specs.Cursors.{belongs}
 use Rattle.listings.specs.GivenKey.{given_key}
+use Rattle.listings.specs.Numbers.{given_len_by}
 use Rattle.listings.proofs.Laws.Cursors.{belongs-under}
 use Rattle.listings.proofs.Laws.GivenKey.{given_key-within, given_key-spelled, KeyIs, key_apart, key-refused, key-finished, key-fresh, key-strange, key-short, key-written}
 use Rattle.listings.proofs.Laws.Numbers.{stands-path, given_len-path}
-use Rattle.listings.proofs.given_key.cursor_key.Goals.{After-given_len-length, Else-not-is_image, Else-not-stands, In-Open}
+use Rattle.listings.proofs.given_key.cursor_key.Goals.{Else-not-is_image, Else-not-stands, In-Open}
 use Rattle.listings.proofs.given_key.cursor_key.Goals as goal
 
 pub returns-then-not-is_image : goal.returns-then-not-is_image
 returns-then-not-is_image c =
-    let is = key-refused (image_in c.args.labels c.args.values c.args.words) c.args.out.now c.args.cursor (sym c.is_image.ensures ∙ c.if-not-is_image.true) in record { answer = sym is.says_is; written = sym is.after_is }
+    let i = image_in c.args.labels c.args.values c.args.words in
+    let is = key-refused i c.args.out.now c.args.cursor (sym c.is_image.ensures ∙ c.if-not-is_image.true) in
+    record { answer = sym is.says_is; written = sym is.after_is }
 
 -- past the first test the image is a map's
 tested : (c : Else-not-is_image) → image_test (image_in c.args.labels c.args.values c.args.words) ≡ true
@@ -41,71 +44,79 @@ whole c =
 
 pub returns-in_default : goal.returns-in_default
 returns-in_default c =
-    let is = key_apart (image_in c.args.labels c.args.values c.args.words) _ _ c.args.out.now _ _ c.in_default.is (key-finished (image_in c.args.labels c.args.values c.args.words) c.args.out.now (tested (goal.at.returns-in_default c).Else-not-is_image) _) in record { answer = sym is.says_is; written = sym is.after_is }
+    let i = image_in c.args.labels c.args.values c.args.words in
+    let p = (goal.at.returns-in_default c).Else-not-is_image in
+    let is = key_apart i _ _ c.args.out.now _ _ c.in_default.is (key-finished i c.args.out.now (tested p) _) in
+    record { answer = sym is.says_is; written = sym is.after_is }
 
--- the numbers of an open cursor
-abbrev kind_at : In-Open → Kind
-kind_at c = c.before.cursor.given.0.0
-
-abbrev top_at : In-Open → ℕ
-top_at c = c.before.cursor.given.0.1.0
-
-abbrev last_at : In-Open → ℕ
-last_at c = c.before.cursor.given.0.1.1.0
-
+-- the cursor is open: what is known of its numbers is known of it
 apart : (c : In-Open) (says after : List ℕ)
-    → 
-    KeyIs (image_in c.args.labels c.args.values c.args.words) (Open (kind_at c) (top_at c) (last_at c)) c.args.out.now says after → KeyIs (image_in c.args.labels c.args.values c.args.words) c.args.cursor c.args.out.now says after
+    → let i = image_in c.args.labels c.args.values c.args.words in
+    KeyIs i (Open c.in-Open.kind c.in-Open.top c.in-Open.last) c.args.out.now says after → KeyIs i c.args.cursor c.args.out.now says after
 apart c says after is = key_apart _ _ _ _ says after c.in-Open.is is
 
 pub returns-then-last-eq0 : goal.returns-then-last-eq0
 returns-then-last-eq0 c =
-    
-    let is = apart (goal.at.returns-then-last-eq0 c).In-Open _ _ (key-fresh (image_in c.args.labels c.args.values c.args.words) c.args.out.now (tested (goal.at.returns-then-last-eq0 c).Else-not-is_image) (kind_at (goal.at.returns-then-last-eq0 c).In-Open) (top_at (goal.at.returns-then-last-eq0 c).In-Open) (last_at (goal.at.returns-then-last-eq0 c).In-Open) (omega arith)) in record { answer = sym is.says_is; written = sym is.after_is }
+    let i = image_in c.args.labels c.args.values c.args.words in
+    let p = (goal.at.returns-then-last-eq0 c).Else-not-is_image in
+    let is = apart (goal.at.returns-then-last-eq0 c).In-Open _ _ (key-fresh i c.args.out.now (tested p) c.in-Open.kind c.in-Open.top c.in-Open.last (omega arith)) in
+    record { answer = sym is.says_is; written = sym is.after_is }
 
 pub returns-then-not-stands : goal.returns-then-not-stands
 returns-then-not-stands c =
-    
-    let is = apart (goal.at.returns-then-not-stands c).In-Open _ _ (key-strange (image_in c.args.labels c.args.values c.args.words) c.args.out.now (tested (goal.at.returns-then-not-stands c).Else-not-is_image) (kind_at (goal.at.returns-then-not-stands c).In-Open) (top_at (goal.at.returns-then-not-stands c).In-Open) (last_at (goal.at.returns-then-not-stands c).In-Open) (sym (stands-path (image_in c.args.labels c.args.values c.args.words) (whole (goal.at.returns-then-not-stands c).Else-not-is_image) (kind_at (goal.at.returns-then-not-stands c).In-Open) (top_at (goal.at.returns-then-not-stands c).In-Open) (last_at (goal.at.returns-then-not-stands c).In-Open)) ∙ sym c.stands.ensures ∙ c.if-not-stands.true)) in record { answer = sym is.says_is; written = sym is.after_is }
+    let i = image_in c.args.labels c.args.values c.args.words in
+    let p = (goal.at.returns-then-not-stands c).Else-not-is_image in
+    let strange = sym (stands-path i (whole p) c.in-Open.kind c.in-Open.top c.in-Open.last) ∙ sym c.stands.ensures ∙ c.if-not-stands.true in
+    let is = apart (goal.at.returns-then-not-stands c).In-Open _ _ (key-strange i c.args.out.now (tested p) c.in-Open.kind c.in-Open.top c.in-Open.last strange) in
+    record { answer = sym is.says_is; written = sym is.after_is }
 
 -- past the last test of the numbers they belong, and the node is below the top
-belonging : (c : Else-not-stands)
-    → 
-    belongs (image_map (image_in c.args.labels c.args.values c.args.words)) (Open (kind_at (goal.at.overflow_cast-top c).In-Open) (top_at (goal.at.overflow_cast-top c).In-Open) (last_at (goal.at.overflow_cast-top c).In-Open)) ≡ true
-belonging c =
-    sym (stands-path _ (whole (goal.at.overflow_cast-top c).Else-not-is_image) (kind_at (goal.at.overflow_cast-top c).In-Open) (top_at (goal.at.overflow_cast-top c).In-Open) (last_at (goal.at.overflow_cast-top c).In-Open)) ∙ sym c.stands.ensures ∙ c.if-not-stands.false
+abbrev image_at : Else-not-stands → Image
+image_at c = image_in c.args.labels c.args.values c.args.words
 
-below : (c : Else-not-stands)
-    → 
-    UnderTop (image_map (image_in c.args.labels c.args.values c.args.words)) (top_at (goal.at.overflow_cast-top c).In-Open) (last_at (goal.at.overflow_cast-top c).In-Open)
+belonging : (c : Else-not-stands) → belongs (image_map (image_at c)) (Open c.in-Open.kind c.in-Open.top c.in-Open.last) ≡ true
+belonging c =
+    sym (stands-path _ (whole (goal.at.overflow_cast-top c).Else-not-is_image) c.in-Open.kind c.in-Open.top c.in-Open.last)
+    ∙ sym c.stands.ensures
+    ∙ c.if-not-stands.false
+
+below : (c : Else-not-stands) → UnderTop (image_map (image_at c)) c.in-Open.top c.in-Open.last
 below c = belongs-under _ _ _ _ (whole (goal.at.overflow_cast-top c).Else-not-is_image).catalogue.rising (belonging c) (omega arith)
 
 -- the key is as long as was answered
-long : (c : After-given_len-length)
-    → 
-    c.given_len-length.result ≡ length (given_key (image_map (image_in c.args.labels c.args.values c.args.words)) (kind_at c.before) (top_at c.before) (last_at c.before))
-long c =
-    c.given_len-length.ensures ∙ given_len-path _ (whole c.before) (kind_at c.before) (top_at c.before) (last_at c.before) (below c.before)
+long : (c : Else-not-stands) (result : ℕ)
+    → result ≡ given_len_by (bit (image_at c).words) (bits_for (entries (image_at c))) c.in-Open.kind c.in-Open.top c.in-Open.last
+    → result ≡ length (given_key (image_map (image_at c)) c.in-Open.kind c.in-Open.top c.in-Open.last)
+long c result ensured =
+    ensured ∙ given_len-path _ (whole (goal.at.overflow_cast-top c).Else-not-is_image) c.in-Open.kind c.in-Open.top c.in-Open.last (below c)
 
 pub returns-then-out-length : goal.returns-then-out-length
 returns-then-out-length c =
-    
-    let size = long (goal.at.returns-then-out-length c).After-given_len-length in
-    let is = apart (goal.at.returns-then-out-length c).In-Open _ _ (key-short (image_in c.args.labels c.args.values c.args.words) c.args.out.now (tested (goal.at.returns-then-out-length c).Else-not-is_image) (kind_at (goal.at.returns-then-out-length c).In-Open) (top_at (goal.at.returns-then-out-length c).In-Open) (last_at (goal.at.returns-then-out-length c).In-Open) (belonging (goal.at.returns-then-out-length c).Else-not-stands) (omega arith) (omega arith)) in record { answer = sym is.says_is; written = sym is.after_is }
+    let e = (goal.at.returns-then-out-length c).Else-not-stands in
+    let p = (goal.at.returns-then-out-length c).Else-not-is_image in
+    let size = long e _ c.given_len-length.ensures in
+    let is = apart (goal.at.returns-then-out-length c).In-Open _ _ (key-short (image_at e) c.args.out.now (tested p) c.in-Open.kind c.in-Open.top c.in-Open.last (belonging e) (omega arith) (omega arith)) in
+    record { answer = sym is.says_is; written = sym is.after_is }
 
 pub returns : goal.returns
 returns c =
-    
-    
-    let i = image_in c.args.labels c.args.values c.args.words in
-    let map = whole (goal.at.returns c).Else-not-is_image in
-    let under = below (goal.at.returns c).Else-not-stands in
-    let size = long (goal.at.returns c).After-given_len-length in
-    let within = given_key-within (image_map i) (top_at (goal.at.returns c).In-Open) (last_at (goal.at.returns c).In-Open) under (kind_at (goal.at.returns c).In-Open) in
-    let is = apart (goal.at.returns c).In-Open _ _ (key-written i c.args.out.now (tested (goal.at.returns c).Else-not-is_image) (kind_at (goal.at.returns c).In-Open) (top_at (goal.at.returns c).In-Open) (last_at (goal.at.returns c).In-Open) (belonging (goal.at.returns c).Else-not-stands) (omega (arith, c.if-last-eq0.false)) (omega (arith, c.if-out-length.false, size))) in record { answer = ap (λ n. 0 ∷ n ∷ []) size ∙ sym is.says_is; written = c.spell.ensures
-          ∙ spell-path i map (last_at (goal.at.returns c).In-Open) under.inside _ (omega (arith, size, within)) c.args.out.now (omega (arith, c.if-out-length.false))
-          ∙ given_key-spelled (image_map i) (top_at (goal.at.returns c).In-Open) (last_at (goal.at.returns c).In-Open) under (kind_at (goal.at.returns c).In-Open) _ c.args.out.now size
-          ∙ sym is.after_is }
+    let e = (goal.at.returns c).Else-not-stands in
+    let p = (goal.at.returns c).Else-not-is_image in
+    let i = image_at e in
+    let map = whole p in
+    let under = below e in
+    let size = long e _ c.given_len-length.ensures in
+    let within = given_key-within (image_map i) c.in-Open.top c.in-Open.last under c.in-Open.kind in
+    let is = apart (goal.at.returns c).In-Open _ _ (key-written i c.args.out.now (tested p) c.in-Open.kind c.in-Open.top c.in-Open.last (belonging e) (omega (arith, c.if-last-eq0.false)) (omega (arith, c.if-out-length.false, size))) in
+    record {
+      answer = ap (λ n. 0 ∷ n ∷ []) size ∙ sym is.says_is;
+      written =
+          c.spell.ensures
+          ∙ spell-path i map c.in-Open.last under.inside _ (omega (arith, size, within)) c.args.out.now (omega (arith, c.if-out-length.false))
+          ∙ given_key-spelled (image_map i) c.in-Open.top c.in-Open.last under c.in-Open.kind _ c.args.out.now size
+          ∙ sym is.after_is;
+    }
 
+-- asked here so that the laws above can look back from it
 pub overflow_cast-top : goal.overflow_cast-top
 overflow_cast-top c = search rules

@@ -1,5 +1,4 @@
 pub mod Laws
-pub mod Held
 pub mod AsksNothing
 pub mod Determined
 pub mod Ties

@@ -19,7 +19,7 @@ use mathlib.Core.List.{List, [], ◌∷◌, ◌++◌, append_assoc, append-nil}
 use mathlib.Core.Option.{Option, none, some}
 use lib.ListN.{length, take}
 use Rattle.keymap.specs.Members.{In, here}
-use Rattle.keymap.specs.Key.{Key, PrefixOf, extends}
+use Rattle.keymap.specs.Key.{Key, PrefixOf}
 use Rattle.keymap.specs.Refusals.{refuses, NotAnImage, BadPlace}
 use Rattle.keymap.specs.Map.{Map, Rising, lookup}
 use Rattle.keymap.specs.Queries.{nonempty, SomeBegins, beginning, longer, is_prefix_in, LongestCommon, common_of_all}

@@ -1,8 +1,6 @@
 -- `places::moves::answer_at` meets its contract: its two calls are the definition's. Assumes nothing.
 use mathlib.Core.Path.{◌≡◌, sym, ap, ◌∙◌}
 use native.Mathlib.Omega.{arith}
-use borrow.Author.Rules.{rules}
-use Rattle.keymap.specs.Image.{Image}
 use Rattle.image.specs.Meaning.{image_in}
 use Rattle.walks.specs.declared.answers.Kids.{Kids}
 use Rattle.walks.proofs.Laws.Stands.{held_of-value, held_of-none}

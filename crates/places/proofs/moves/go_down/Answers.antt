@@ -1,28 +1,23 @@
 -- `places::moves::go_down` meets its contract: the children that louds answers are those of the node's stand, the other calls are the definition's,
 -- and a glide has no more steps than there are nodes. Assumes nothing.
 use mathlib.Core.Path.{◌≡◌, sym, ap, ◌∙◌}
+use Prim.Native.Nat.{◌+◌}
 use native.Mathlib.Omega.{arith}
 use lib.ListN.{length}
-use borrow.Author.Rules.{rules}
 use Rattle.keymap.specs.Bits.{bit}
-use Rattle.keymap.specs.Image.{Image, bits_for}
+use Rattle.keymap.specs.Image.{bits_for}
 use Rattle.louds.specs.declared.answers.Children.TheVariants.{Run}
 use Rattle.louds.specs.Nodes.{children_of}
 use Rattle.image.specs.Meaning.{image_in}
 use Rattle.walks.specs.declared.glide.Glided.{Glided}
+use Rattle.walks.specs.declared.stands.Stand.{Stand}
+use Rattle.walks.specs.Stands.{kid_from}
 use Rattle.walks.specs.Glide.{only_kid, glided_from}
 use Rattle.walks.proofs.Laws.Stands.{held_of-value, held_of-none}
 use Rattle.places.specs.Moves.{stand_in, count_from}
 use Rattle.places.proofs.Laws.Moves.{children-lost, children-count, only-run, goto-leaf, goto-several, goto-key, goto-parting, glide-few}
-use Rattle.places.proofs.moves.go_down.Goals.{After-glide-g, After-kid_at-c, Else-count-gt1, In-Run, Start}
+use Rattle.places.proofs.moves.go_down.Goals.{Else-count-gt1, In-Run}
 use Rattle.places.proofs.moves.go_down.Goals as goal
-
--- where the glide ends
-abbrev gone : Start → Glided
-gone start =
-    let b = bit start.args.words.now in
-    let len = bits_for (length start.args.labels.now) in
-    glided_from start.args.labels.now start.args.values.now b len (only_kid b len (stand_in (image_in c.args.labels c.args.values c.args.words) start.args.node))
 
 pub returns-in_default : goal.returns-in_default
 returns-in_default c =
@@ -49,18 +44,28 @@ pub overflow_add-from : goal.overflow_add-from
 overflow_add-from c = omega (arith, (children-count (image_in c.args.labels c.args.values c.args.words) c.args.node _ _ (run (goal.at.overflow_add-from c).In-Run)).1, c.if-count-eq0.false)
 
 -- the stand at it
-child : (c : After-kid_at-c)
-    → c.kid_at-c.result
-    ≡ only_kid (bit c.args.words.now) (bits_for (length c.args.labels.now)) (stand_in (image_in c.args.labels c.args.values c.args.words) c.args.node)
-child c =
-    let there = run (goal.at.glide-g-requires c).In-Run in
-    c.kid_at-c.ensures
-    ∙ only-run (image_in c.args.labels c.args.values c.args.words) c.args.node _ _ there (omega (arith, one (goal.at.glide-g-requires c).Else-count-gt1, (children-count (image_in c.args.labels c.args.values c.args.words) c.args.node _ _ there).0))
+child : (c : Else-count-gt1) (s : Stand)
+    → s ≡ kid_from (bit c.args.words.now) (bits_for (length c.args.labels.now)) c.args.node (c.args.node + c.in-Run.first) c.in-Run.first
+    → s ≡ only_kid (bit c.args.words.now) (bits_for (length c.args.labels.now)) (stand_in (image_in c.args.labels c.args.values c.args.words) c.args.node)
+child c s says =
+    let i = image_in c.args.labels c.args.values c.args.words in
+    let there = run (goal.at.overflow_add-from c).In-Run in
+    says ∙ only-run i c.args.node _ _ there (omega (arith, one c, (children-count i c.args.node _ _ there).0))
 
-glided : (c : After-glide-g) → c.glide-g.result ≡ gone c.before
-glided c =
+-- where a glide from it ends
+abbrev gone : Else-count-gt1 → Glided
+gone c =
+    let b = bit c.args.words.now in
+    let len = bits_for (length c.args.labels.now) in
+    glided_from c.args.labels.now c.args.values.now b len (only_kid b len (stand_in (image_in c.args.labels c.args.values c.args.words) c.args.node))
+
+glided : (c : Else-count-gt1) (s : Stand) (g : Glided)
+    → s ≡ kid_from (bit c.args.words.now) (bits_for (length c.args.labels.now)) c.args.node (c.args.node + c.in-Run.first) c.in-Run.first
+    → g ≡ glided_from c.args.labels.now c.args.values.now (bit c.args.words.now) (bits_for (length c.args.labels.now)) s
+    → g ≡ gone c
+glided c s g stands ends =
     let a = c.args in
-    c.glide-g.ensures ∙ ap (glided_from a.labels.now a.values.now (bit a.words.now) (bits_for (length a.labels.now))) (child c.before)
+    ends ∙ ap (glided_from a.labels.now a.values.now (bit a.words.now) (bits_for (length a.labels.now))) (child c s stands)
 
 pub overflow_add-distance : goal.overflow_add-distance
 overflow_add-distance c =
@@ -70,11 +75,8 @@ overflow_add-distance c =
 
 pub returns-in-Value : goal.returns-in-Value
 returns-in-Value c =
-    goto-key (image_in c.args.labels c.args.values c.args.words) c.args.node (one (goal.at.returns-in-Value c).Else-count-gt1) _ (glided (goal.at.returns-in-Value c).After-glide-g) _ c.place_number.ensures _ (held_of-value _ _ (sym c.value_at.ensures ∙ c.in-Value.is))
+    goto-key (image_in c.args.labels c.args.values c.args.words) c.args.node (one (goal.at.returns-in-Value c).Else-count-gt1) _ (glided (goal.at.returns-in-Value c).Else-count-gt1 _ _ c.kid_at-c.ensures c.glide-g.ensures) _ c.place_number.ensures _ (held_of-value _ _ (sym c.value_at.ensures ∙ c.in-Value.is))
 
 pub returns-in-NoValue : goal.returns-in-NoValue
 returns-in-NoValue c =
-    goto-parting (image_in c.args.labels c.args.values c.args.words) c.args.node (one (goal.at.returns-in-NoValue c).Else-count-gt1) _ (glided (goal.at.returns-in-NoValue c).After-glide-g) _ c.place_number-in-NoValue.ensures (held_of-none _ (sym c.value_at.ensures ∙ c.in-NoValue.is))
-
-pub glide-g-requires : goal.glide-g-requires
-glide-g-requires c = search rules
+    goto-parting (image_in c.args.labels c.args.values c.args.words) c.args.node (one (goal.at.returns-in-NoValue c).Else-count-gt1) _ (glided (goal.at.returns-in-NoValue c).Else-count-gt1 _ _ c.kid_at-c.ensures c.glide-g.ensures) _ c.place_number-in-NoValue.ensures (held_of-none _ (sym c.value_at.ensures ∙ c.in-NoValue.is))

@@ -1,7 +1,6 @@
 -- `places::moves::place_number` meets its contract. Assumes nothing.
 use mathlib.Core.Path.{sym}
 use native.Mathlib.Omega.{arith}
-use borrow.Author.Rules.{rules}
 use Rattle.places.proofs.Laws.Moves.{number-large, number_small}
 use Rattle.places.proofs.moves.place_number.Goals as goal
 

@@ -1,9 +1,8 @@
 -- `places::moves::step_by` meets its contract: a step down goes where the rule goes. Assumes nothing.
 use mathlib.Core.Path.{◌≡◌, sym, ap, ◌∙◌}
 use lib.ListN.{length}
-use borrow.Author.Rules.{rules}
 use Rattle.keymap.specs.Bits.{bit}
-use Rattle.keymap.specs.Image.{Image, bits_for}
+use Rattle.keymap.specs.Image.{bits_for}
 use Rattle.keymap.proofs.Laws.Bits.{bit-small}
 use Rattle.image.specs.Meaning.{image_in}
 use Rattle.walks.specs.declared.stands.Stand.{Stand}

@@ -2,19 +2,18 @@
 use mathlib.Core.Path.{◌≡◌, sym, ap, ◌∙◌}
 use mathlib.Core.Bool.{Bool, true}
 use mathlib.Core.List.{[], ◌∷◌}
-use borrow.Author.Rules.{rules}
-use borrow.Author.Tests.{not-true, not-false}
-use Rattle.keymap.specs.Image.{Image}
+use lib.ListN.{length}
 use Rattle.keymap.specs.Paths.{is_node}
 use Rattle.keymap.specs.Decode.{image_map}
 use Rattle.keymap.proofs.Laws.Paths.{is_node-iff}
 use Rattle.image.specs.AcceptTest.{image_test}
 use Rattle.image.specs.Meaning.{image_in, MapImage}
 use Rattle.image.proofs.Laws.Meaning.{tested-map_image}
+use Rattle.walks.specs.Rule.{is_node_of}
 use Rattle.walks.proofs.Laws.MapImage.{is_node-is}
 use Rattle.climbs.proofs.Laws.MapClimb.{depth-path}
 use Rattle.places.proofs.Laws.Places.{on_place-refused, on_place-strange, on_place-kept, prefix_len-is}
-use Rattle.places.proofs.reading.prefix_len.Goals.{After-is_node, Else-not-is_image, Else-not-is_node}
+use Rattle.places.proofs.reading.prefix_len.Goals.{Else-not-is_image}
 use Rattle.places.proofs.reading.prefix_len.Goals as goal
 
 pub returns-then-not-is_image : goal.returns-then-not-is_image
@@ -31,21 +30,17 @@ whole c =
     (tested c)
 
 -- what the test of the number says of the map
-node-told : (c : After-is_node) (t : Bool) → c.is_node.result ≡ t → is_node (image_map (image_in c.args.labels c.args.values c.args.words)) c.args.place.node ≡ t
-node-told c t e =
-    sym (is_node-is (image_in c.args.labels c.args.values c.args.words) (whole c.before) c.args.place.node) ∙ sym c.is_node.ensures ∙ e
-
--- and past the second the number is a node's
-belongs : (c : Else-not-is_node) → is_node (image_map (image_in c.args.labels c.args.values c.args.words)) c.args.place.node ≡ true
-belongs c = node-told (goal.at.overflow_mul-len c).After-is_node _ (c.if-not-is_node.false)
+node-told : (c : Else-not-is_image) (r t : Bool) → r ≡ is_node_of (length c.args.labels.now) c.args.place.node → r ≡ t → is_node (image_map (image_in c.args.labels c.args.values c.args.words)) c.args.place.node ≡ t
+node-told c r t says e = sym (is_node-is (image_in c.args.labels c.args.values c.args.words) (whole c) c.args.place.node) ∙ sym says ∙ e
 
 pub returns-then-not-is_node : goal.returns-then-not-is_node
-returns-then-not-is_node c = record { answer = sym (prefix_len-is (image_in c.args.labels c.args.values c.args.words) c.args.place.node ∙ on_place-strange (image_in c.args.labels c.args.values c.args.words) c.args.place.node _ (tested (goal.at.returns-then-not-is_node c).Else-not-is_image) (node-told (goal.at.returns-then-not-is_node c).After-is_node _ (c.if-not-is_node.true))) }
+returns-then-not-is_node c = record { answer = sym (prefix_len-is (image_in c.args.labels c.args.values c.args.words) c.args.place.node ∙ on_place-strange (image_in c.args.labels c.args.values c.args.words) c.args.place.node _ (tested (goal.at.returns-then-not-is_node c).Else-not-is_image) (node-told (goal.at.returns-then-not-is_node c).Else-not-is_image _ _ c.is_node.ensures c.if-not-is_node.true)) }
 
 pub returns : goal.returns
 returns c =
-    record { answer = ap (λ n. 0 ∷ n ∷ []) (c.depth.ensures ∙ depth-path (image_in c.args.labels c.args.values c.args.words) (whole (goal.at.returns c).Else-not-is_image) c.args.place.node ((is_node-iff _ _).0 (belongs (goal.at.returns c).Else-not-is_node)))
-    ∙ sym (prefix_len-is (image_in c.args.labels c.args.values c.args.words) c.args.place.node ∙ on_place-kept (image_in c.args.labels c.args.values c.args.words) c.args.place.node _ (tested (goal.at.returns c).Else-not-is_image) (belongs (goal.at.returns c).Else-not-is_node)) }
-
-pub overflow_mul-len : goal.overflow_mul-len
-overflow_mul-len c = search rules
+    let i = image_in c.args.labels c.args.values c.args.words in
+    let node = c.args.place.node in
+    let inside = node-told (goal.at.returns c).Else-not-is_image _ _ c.is_node.ensures c.if-not-is_node.false in
+    let says = prefix_len-is i node ∙ on_place-kept i node _ (tested (goal.at.returns c).Else-not-is_image) inside in
+    let deep = depth-path i (whole (goal.at.returns c).Else-not-is_image) node ((is_node-iff _ _).0 inside) in
+    record { answer = ap (λ n. 0 ∷ n ∷ []) (c.depth.ensures ∙ deep) ∙ sym says }

@@ -1,17 +1,16 @@
 -- `places::reading::resume` meets its contract: 6 of an image that no map has, then 7 of a number that is no node's, else the place. Assumes nothing.
 use mathlib.Core.Path.{◌≡◌, sym, ◌∙◌}
 use mathlib.Core.Bool.{Bool, true}
-use borrow.Author.Rules.{rules}
-use borrow.Author.Tests.{not-true, not-false}
-use Rattle.keymap.specs.Image.{Image}
+use lib.ListN.{length}
 use Rattle.keymap.specs.Paths.{is_node}
 use Rattle.keymap.specs.Decode.{image_map}
 use Rattle.image.specs.AcceptTest.{image_test}
 use Rattle.image.specs.Meaning.{image_in, MapImage}
 use Rattle.image.proofs.Laws.Meaning.{tested-map_image}
+use Rattle.walks.specs.Rule.{is_node_of}
 use Rattle.walks.proofs.Laws.MapImage.{is_node-is}
 use Rattle.places.proofs.Laws.Places.{on_place-refused, on_place-strange, on_place-kept, resume-is}
-use Rattle.places.proofs.reading.resume.Goals.{After-is_node, Else-not-is_image, Else-not-is_node}
+use Rattle.places.proofs.reading.resume.Goals.{Else-not-is_image}
 use Rattle.places.proofs.reading.resume.Goals as goal
 
 pub returns-then-not-is_image : goal.returns-then-not-is_image
@@ -28,16 +27,11 @@ whole c =
     (tested c)
 
 -- what the test of the number says of the map
-node-told : (c : After-is_node) (t : Bool) → c.is_node.result ≡ t → is_node (image_map (image_in c.args.labels c.args.values c.args.words)) c.args.node ≡ t
-node-told c t e =
-    sym (is_node-is (image_in c.args.labels c.args.values c.args.words) (whole c.before) c.args.node) ∙ sym c.is_node.ensures ∙ e
-
--- and past the second the number is a node's
-belongs : (c : Else-not-is_node) → is_node (image_map (image_in c.args.labels c.args.values c.args.words)) c.args.node ≡ true
-belongs c = node-told (goal.at.returns c).After-is_node _ (c.if-not-is_node.false)
+node-told : (c : Else-not-is_image) (r t : Bool) → r ≡ is_node_of (length c.args.labels.now) c.args.node → r ≡ t → is_node (image_map (image_in c.args.labels c.args.values c.args.words)) c.args.node ≡ t
+node-told c r t says e = sym (is_node-is (image_in c.args.labels c.args.values c.args.words) (whole c) c.args.node) ∙ sym says ∙ e
 
 pub returns-then-not-is_node : goal.returns-then-not-is_node
-returns-then-not-is_node c = record { answer = sym (resume-is (image_in c.args.labels c.args.values c.args.words) c.args.node ∙ on_place-strange (image_in c.args.labels c.args.values c.args.words) c.args.node _ (tested (goal.at.returns-then-not-is_node c).Else-not-is_image) (node-told (goal.at.returns-then-not-is_node c).After-is_node _ (c.if-not-is_node.true))) }
+returns-then-not-is_node c = record { answer = sym (resume-is (image_in c.args.labels c.args.values c.args.words) c.args.node ∙ on_place-strange (image_in c.args.labels c.args.values c.args.words) c.args.node _ (tested (goal.at.returns-then-not-is_node c).Else-not-is_image) (node-told (goal.at.returns-then-not-is_node c).Else-not-is_image _ _ c.is_node.ensures c.if-not-is_node.true)) }
 
 pub returns : goal.returns
-returns c = record { answer = sym (resume-is (image_in c.args.labels c.args.values c.args.words) c.args.node ∙ on_place-kept (image_in c.args.labels c.args.values c.args.words) c.args.node _ (tested (goal.at.returns c).Else-not-is_image) (belongs c)) }
+returns c = record { answer = sym (resume-is (image_in c.args.labels c.args.values c.args.words) c.args.node ∙ on_place-kept (image_in c.args.labels c.args.values c.args.words) c.args.node _ (tested (goal.at.returns c).Else-not-is_image) (node-told (goal.at.returns c).Else-not-is_image _ _ c.is_node.ensures c.if-not-is_node.false)) }

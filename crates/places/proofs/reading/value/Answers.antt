@@ -1,9 +1,9 @@
 -- `places::reading::value` meets its contract: 6 of an image that no map has, then 7 of a number that is no node's, else what the node holds. Assumes nothing.
 use mathlib.Core.Path.{◌≡◌, sym, ap, ◌∙◌}
 use mathlib.Core.Bool.{Bool, true}
-use borrow.Author.Rules.{rules}
-use borrow.Author.Tests.{not-true, not-false}
-use Rattle.keymap.specs.Image.{Image}
+use Prim.Native.Nat.{ℕ}
+use mathlib.Core.Option.{Option}
+use lib.ListN.{length}
 use Rattle.keymap.specs.Answers.{says_value}
 use Rattle.keymap.specs.Paths.{is_node}
 use Rattle.keymap.specs.Decode.{image_map}
@@ -13,9 +13,11 @@ use Rattle.image.specs.Meaning.{image_in, MapImage}
 use Rattle.image.proofs.Laws.Meaning.{tested-map_image}
 use Rattle.walks.proofs.Laws.MapWalk.{node-value}
 use Rattle.walks.proofs.Laws.Stands.{held_of-value, held_of-none}
+use Rattle.walks.specs.Rule.{is_node_of, value_of_node}
 use Rattle.walks.proofs.Laws.MapImage.{is_node-is}
+use Rattle.places.specs.Places.{value_says}
 use Rattle.places.proofs.Laws.Places.{on_place-refused, on_place-strange, on_place-kept, value-is}
-use Rattle.places.proofs.reading.value.Goals.{After-is_node, Else-not-is_image, Else-not-is_node}
+use Rattle.places.proofs.reading.value.Goals.{Else-not-is_image}
 use Rattle.places.proofs.reading.value.Goals as goal
 
 pub returns-then-not-is_image : goal.returns-then-not-is_image
@@ -32,32 +34,27 @@ whole c =
     (tested c)
 
 -- what the test of the number says of the map
-node-told : (c : After-is_node) (t : Bool) → c.is_node.result ≡ t → is_node (image_map (image_in c.args.labels c.args.values c.args.words)) c.args.place.node ≡ t
-node-told c t e =
-    sym (is_node-is (image_in c.args.labels c.args.values c.args.words) (whole c.before) c.args.place.node) ∙ sym c.is_node.ensures ∙ e
-
--- and past the second the number is a node's
-belongs : (c : Else-not-is_node) → is_node (image_map (image_in c.args.labels c.args.values c.args.words)) c.args.place.node ≡ true
-belongs c = node-told (goal.at.overflow_cast-node c).After-is_node _ (c.if-not-is_node.false)
+node-told : (c : Else-not-is_image) (r t : Bool) → r ≡ is_node_of (length c.args.labels.now) c.args.place.node → r ≡ t → is_node (image_map (image_in c.args.labels c.args.values c.args.words)) c.args.place.node ≡ t
+node-told c r t says e = sym (is_node-is (image_in c.args.labels c.args.values c.args.words) (whole c) c.args.place.node) ∙ sym says ∙ e
 
 pub returns-then-not-is_node : goal.returns-then-not-is_node
-returns-then-not-is_node c = record { answer = sym (value-is (image_in c.args.labels c.args.values c.args.words) c.args.place.node ∙ on_place-strange (image_in c.args.labels c.args.values c.args.words) c.args.place.node _ (tested (goal.at.returns-then-not-is_node c).Else-not-is_image) (node-told (goal.at.returns-then-not-is_node c).After-is_node _ (c.if-not-is_node.true))) }
+returns-then-not-is_node c = record { answer = sym (value-is (image_in c.args.labels c.args.values c.args.words) c.args.place.node ∙ on_place-strange (image_in c.args.labels c.args.values c.args.words) c.args.place.node _ (tested (goal.at.returns-then-not-is_node c).Else-not-is_image) (node-told (goal.at.returns-then-not-is_node c).Else-not-is_image _ _ c.is_node.ensures c.if-not-is_node.true)) }
+
+-- at a node of the map the map's value is what the node holds
+held : (c : Else-not-is_image) → is_node (image_map (image_in c.args.labels c.args.values c.args.words)) c.args.place.node ≡ true → (v : Option ℕ)
+    → value_of_node c.args.labels.now c.args.values.now c.args.place.node ≡ v
+    → value_says (image_in c.args.labels c.args.values c.args.words) c.args.place.node ≡ says_value v
+held c inside v e =
+    let i = image_in c.args.labels c.args.values c.args.words in
+    let node = c.args.place.node in
+    value-is i node ∙ on_place-kept i node _ (tested c) inside ∙ ap says_value (sym (node-value i (whole c) node ((is_node-iff _ _).0 inside)) ∙ e)
 
 pub returns-in-Value : goal.returns-in-Value
 returns-in-Value c =
-    let said = sym
-    (value-is (image_in c.args.labels c.args.values c.args.words) c.args.place.node
-    ∙ on_place-kept (image_in c.args.labels c.args.values c.args.words) c.args.place.node _ (tested (goal.at.returns-in-Value c).Else-not-is_image) (belongs (goal.at.returns-in-Value c).Else-not-is_node)
-    ∙ ap says_value (sym (node-value (image_in c.args.labels c.args.values c.args.words) (whole (goal.at.returns-in-Value c).Else-not-is_image) c.args.place.node ((is_node-iff _ _).0 (belongs (goal.at.returns-in-Value c).Else-not-is_node))) ∙ held_of-value _ _ (sym c.value_at.ensures ∙ c.in-Value.is))) in
-    record { answer = said }
+    let inside = node-told (goal.at.returns-in-Value c).Else-not-is_image _ _ c.is_node.ensures c.if-not-is_node.false in
+    record { answer = sym (held (goal.at.returns-in-Value c).Else-not-is_image inside _ (held_of-value _ _ (sym c.value_at.ensures ∙ c.in-Value.is))) }
 
 pub returns-in-NoValue : goal.returns-in-NoValue
 returns-in-NoValue c =
-    let said = sym
-    (value-is (image_in c.args.labels c.args.values c.args.words) c.args.place.node
-    ∙ on_place-kept (image_in c.args.labels c.args.values c.args.words) c.args.place.node _ (tested (goal.at.returns-in-NoValue c).Else-not-is_image) (belongs (goal.at.returns-in-NoValue c).Else-not-is_node)
-    ∙ ap says_value (sym (node-value (image_in c.args.labels c.args.values c.args.words) (whole (goal.at.returns-in-NoValue c).Else-not-is_image) c.args.place.node ((is_node-iff _ _).0 (belongs (goal.at.returns-in-NoValue c).Else-not-is_node))) ∙ held_of-none _ (sym c.value_at.ensures ∙ c.in-NoValue.is))) in
-    record { answer = said }
-
-pub overflow_cast-node : goal.overflow_cast-node
-overflow_cast-node c = search rules
+    let inside = node-told (goal.at.returns-in-NoValue c).Else-not-is_image _ _ c.is_node.ensures c.if-not-is_node.false in
+    record { answer = sym (held (goal.at.returns-in-NoValue c).Else-not-is_image inside _ (held_of-none _ (sym c.value_at.ensures ∙ c.in-NoValue.is))) }

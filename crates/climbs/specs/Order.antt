@@ -11,7 +11,7 @@
 --     UnderTop      a node of a map is at or below a top
 --     given_by       an entry of the map as its node's number and value
 -- Assumes nothing.
-use Rattle.std.specs.Prelude.{ℕ, zero, suc, ◌+◌, ◌-◌, Bool, cond, ◌&&◌, List, length, eqb, ltb}
+use Rattle.std.specs.Prelude.{ℕ, zero, suc, ◌+◌, Bool, cond, ◌&&◌, List, length, eqb, ltb}
 use Rattle.std.proofs.Math.Option.{Option, none, some}
 use Rattle.keymap.specs.Key.{PrefixOf}
 use Rattle.keymap.specs.Map.{Entry, Map}

@@ -15,18 +15,17 @@ use native.Mathlib.Decide.{dec_le}
 use native.Mathlib.Omega.{arith}
 use mathlib.Core.Bool.{Bool, true, false, true≢false}
 use mathlib.Core.Option.{Option, none, some, none-ne-some}
-use lib.Dec.{ltb, leb}
+use lib.Dec.{ltb}
 use borrow.Author.Tests.{lt-ltb, le-ltb, le-leb, lt-leb, ltb-true}
 use Rattle.louds.specs.declared.answers.Spot.{Spot}
 use Rattle.louds.specs.declared.answers.Spot.TheVariants.{At, Missing}
 use Rattle.louds.specs.declared.answers.Up.{Up}
 use Rattle.louds.specs.declared.answers.Up.TheVariants.{Node, NoOne}
-use Rattle.louds.specs.Select.{kth, one_at, one_back}
+use Rattle.louds.specs.Select.{one_at, one_back}
 use Rattle.louds.specs.Nodes.{or_end, parent_of}
 use Rattle.louds.proofs.Laws.Rank.{ones-zeros}
 use Rattle.louds.proofs.Laws.Select.{Stands, rank-kth, kth-exists, kth-back}
 use Rattle.louds.proofs.Laws.Nodes.{parent-none, parent-at, parent-told}
-use Rattle.keymap.specs.Bits.{sum_below}
 use Rattle.keymap.proofs.Laws.Sums.{sum_below-mono}
 use Rattle.climbs.specs.declared.perches.Perch.{Perch}
 use Rattle.climbs.specs.declared.perches.Rise.{Rise}

@@ -36,7 +36,7 @@ use Rattle.image.specs.AcceptTest.{lengths_fit}
 use Rattle.image.proofs.Laws.AcceptTest.{lengths-told}
 use Rattle.walks.specs.Rule.{counts, matches, is_child_by, lowest_by, child_by, step_by, walked_from, walked, value_of_node, value_at_end, node_by}
 use Rattle.searches.specs.Untested.{untested_says}
-use Rattle.searches.specs.Met.{counted, siblings_at, met_from, met, looked_at, looked_over, looked_from, looked, AgreeOn, Alike}
+use Rattle.searches.specs.Met.{counted, siblings_at, met_from, looked_at, looked_over, looked_from, looked, AgreeOn, Alike}
 use Rattle.walks.proofs.Laws.Rule.{is_child_by-told, child_by-none, child_by-run, walked_from-end, walked_from-step, value_of_node-root, value_of_node-short, value_of_node-plain, value_of_node-large, value_of_node-held}
 use Rattle.searches.proofs.Laws.Untested.{untested_says-refused, untested_says-found}
 

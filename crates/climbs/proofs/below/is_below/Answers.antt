@@ -1,6 +1,5 @@
-use mathlib.Core.Path.{◌≡◌, sym, ap, ◌∙◌}
+use mathlib.Core.Path.{sym, ap, ◌∙◌}
 use native.Mathlib.Omega.{arith}
-use borrow.Author.Rules.{rules}
 use Rattle.keymap.specs.Bits.{bit}
 use Rattle.keymap.proofs.Laws.Bits.{bit-small}
 use Rattle.climbs.specs.declared.perches.Perch.{Perch}
@@ -29,7 +28,7 @@ returns-in_default c =
 
 -- where the step led
 there : (c : In-Parent)
-    → 
+    →
     let a = c.args in
     RiseTold (bit a.words.now) a.len c.loop-at.at.node c.in-Parent.up
 there c =

@@ -1,15 +1,9 @@
 -- `climbs::below::is_below` meets its contract. The invariant: the perch knows its one, and its node is below the top exactly if the node is.
 -- The measure is the perch's number: parents have lower ones. Assumes nothing.
-use mathlib.Core.Path.{◌≡◌, sym, ap, ◌∙◌}
-use native.Mathlib.Omega.{arith}
-use borrow.Author.Rules.{rules}
+use mathlib.Core.Path.{◌≡◌}
 use Rattle.keymap.specs.Bits.{bit}
-use Rattle.keymap.proofs.Laws.Bits.{bit-small}
-use Rattle.climbs.specs.declared.perches.Perch.{Perch}
 use Rattle.climbs.specs.Perches.{perch_at}
 use Rattle.climbs.specs.Below.{below_by}
-use Rattle.climbs.proofs.Laws.Perches.{RiseTold, rise-to, rise-lost}
-use Rattle.climbs.proofs.Laws.Below.{below_by-here, below_by-lost, below_by-up}
 use Rattle.climbs.proofs.below.is_below.Given as goal
 
 abbrev pub invariant-loop-at : goal.invariant-loop-at

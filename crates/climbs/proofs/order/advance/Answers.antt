@@ -1,6 +1,5 @@
 -- `climbs::order::advance` meets its contract: the first child, and where there is none the climb. Assumes nothing.
 use mathlib.Core.Path.{sym, ap, ◌∙◌}
-use borrow.Author.Rules.{rules}
 use Rattle.keymap.specs.Bits.{bit}
 use Rattle.climbs.specs.Moves.{or_moved, climb_from}
 use Rattle.climbs.proofs.order.advance.Goals as goal

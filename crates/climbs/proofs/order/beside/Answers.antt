@@ -2,8 +2,6 @@
 use mathlib.Core.Path.{◌≡◌, sym, ◌∙◌}
 use native.Mathlib.Omega.{arith}
 use mathlib.Core.Bool.{true}
-use borrow.Author.Rules.{rules}
-use borrow.Author.Tests.{not-true, not-false}
 use Rattle.keymap.specs.Bits.{bit}
 use Rattle.climbs.specs.Order.{one_behind}
 use Rattle.climbs.proofs.Laws.Order.{one_behind-told}

@@ -1,8 +1,6 @@
-use mathlib.Core.Path.{◌≡◌, refl, sym, ◌∙◌}
+use mathlib.Core.Path.{refl, sym, ◌∙◌}
 use native.Mathlib.Omega.{arith}
-use borrow.Author.Rules.{rules}
 use Rattle.keymap.specs.Bits.{bit}
-use Rattle.climbs.specs.Moves.{climb_from}
 use Rattle.climbs.proofs.Laws.Moves.{rise-lower, climb_from-top, climb_from-beside, climb_from-lost, climb_from-up}
 use Rattle.climbs.proofs.order.climb.Goals as goal
 

@@ -1,11 +1,8 @@
 -- `climbs::order::climb` meets its contract. The invariant: the climb from the perch is the climb from the first.
 -- The measure is the perch's number: parents have lower ones. Assumes nothing.
-use mathlib.Core.Path.{◌≡◌, refl, sym, ◌∙◌}
-use native.Mathlib.Omega.{arith}
-use borrow.Author.Rules.{rules}
+use mathlib.Core.Path.{◌≡◌}
 use Rattle.keymap.specs.Bits.{bit}
 use Rattle.climbs.specs.Moves.{climb_from}
-use Rattle.climbs.proofs.Laws.Moves.{rise-lower, climb_from-top, climb_from-beside, climb_from-lost, climb_from-up}
 use Rattle.climbs.proofs.order.climb.Given as goal
 
 abbrev pub invariant-loop-at : goal.invariant-loop-at

@@ -1,7 +1,6 @@
 -- `climbs::order::leads_down` meets its contract: each test is one of the definition's. Assumes nothing.
 use mathlib.Core.Path.{sym}
 use native.Mathlib.Omega.{arith}
-use borrow.Author.Rules.{rules}
 use Rattle.climbs.proofs.Laws.Moves.{leads-far, leads-zero, leads-before, leads-last}
 use Rattle.climbs.proofs.order.leads_down.Goals as goal
 

@@ -1,14 +1,13 @@
 use mathlib.Core.Path.{◌≡◌, sym, ap, ◌∙◌}
-use Prim.Native.Nat.{◌+◌, ◌-◌}
+use Prim.Native.Nat.{◌+◌}
 use native.Mathlib.Omega.{arith}
 use lib.ListN.{length}
-use borrow.Author.Rules.{rules}
 use Rattle.keymap.specs.Bits.{bit}
 use Rattle.keymap.proofs.Laws.Bits.{bit-small}
 use Rattle.walks.proofs.Laws.Stands.{held_of-value, held_of-none}
 use Rattle.climbs.specs.declared.perches.Perch.{Perch}
 use Rattle.climbs.specs.Perches.{perch_at}
-use Rattle.climbs.specs.Order.{advance_by, sought_from, next_by, given_of}
+use Rattle.climbs.specs.Order.{advance_by, sought_from, given_of}
 use Rattle.climbs.proofs.Laws.Order.{next-starts, sought-done, sought-lost, sought-value, sought-on}
 use Rattle.climbs.proofs.Laws.Moves.{MovedTold, moved_to, moved-lost}
 use Rattle.climbs.proofs.order.next_valued.Goals.{In-To}
@@ -39,7 +38,7 @@ returns-in_default c =
 
 -- where the step led
 there : (c : In-To)
-    → 
+    →
     let a = c.args in
     MovedTold (bit a.words.now) a.len (advance_by (bit a.words.now) a.len (length a.labels.now + 1) a.top c.loop-left.at.node) c.in-To.next
 there c =

@@ -1,18 +1,11 @@
 -- `climbs::order::next_valued` meets its contract. The invariant: the perch knows its one, and the search goes on from behind its node.
 -- The measure is how many steps are left. Assumes nothing.
-use mathlib.Core.Path.{◌≡◌, sym, ap, ◌∙◌}
-use Prim.Native.Nat.{◌+◌, ◌-◌}
-use native.Mathlib.Omega.{arith}
+use mathlib.Core.Path.{◌≡◌}
+use Prim.Native.Nat.{◌+◌}
 use lib.ListN.{length}
-use borrow.Author.Rules.{rules}
 use Rattle.keymap.specs.Bits.{bit}
-use Rattle.keymap.proofs.Laws.Bits.{bit-small}
-use Rattle.walks.proofs.Laws.Stands.{held_of-value, held_of-none}
-use Rattle.climbs.specs.declared.perches.Perch.{Perch}
 use Rattle.climbs.specs.Perches.{perch_at}
-use Rattle.climbs.specs.Order.{advance_by, sought_from, next_by, given_of}
-use Rattle.climbs.proofs.Laws.Order.{next-starts, sought-done, sought-lost, sought-value, sought-on}
-use Rattle.climbs.proofs.Laws.Moves.{MovedTold, moved_to, moved-lost}
+use Rattle.climbs.specs.Order.{advance_by, sought_from, next_by}
 use Rattle.climbs.proofs.order.next_valued.Given as goal
 
 abbrev pub invariant-loop-left : goal.invariant-loop-left

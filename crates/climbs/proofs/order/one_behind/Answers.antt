@@ -1,7 +1,6 @@
 -- `climbs::order::one_behind` meets its contract: inside the bits the bit behind the place tells. Assumes nothing.
 use mathlib.Core.Path.{sym, ap, ◌∙◌}
 use native.Mathlib.Omega.{arith}
-use borrow.Author.Rules.{rules}
 use lib.Dec.{eqb}
 use Rattle.keymap.specs.Bits.{bit}
 use Rattle.climbs.proofs.Laws.Order.{one_behind-far, one_behind-inside}

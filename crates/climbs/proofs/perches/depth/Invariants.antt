@@ -1,13 +1,8 @@
 -- `climbs::perches::depth` meets its contract. The invariant: the perch knows its one, and as many parents as were counted are below it. Assumes nothing.
-use mathlib.Core.Path.{◌≡◌, sym, ap, ◌∙◌}
+use mathlib.Core.Path.{◌≡◌}
 use Prim.Native.Nat.{◌+◌, ◌≤◌}
-use native.Mathlib.Omega.{arith}
-use borrow.Author.Rules.{rules}
 use Rattle.keymap.specs.Bits.{bit}
-use Rattle.keymap.proofs.Laws.Bits.{bit-small}
-use Rattle.climbs.specs.declared.perches.Perch.{Perch}
 use Rattle.climbs.specs.Perches.{depth_by, perch_at}
-use Rattle.climbs.proofs.Laws.Perches.{depth-root, depth-next, RiseTold, rise-to, rise-lost}
 use Rattle.climbs.proofs.perches.depth.Given as goal
 
 abbrev pub invariant-loop-up : goal.invariant-loop-up

@@ -1,7 +1,6 @@
 -- `climbs::perches::has_parent` meets its contract: each test is one of the definition's. Assumes nothing.
 use mathlib.Core.Path.{sym}
 use native.Mathlib.Omega.{arith}
-use borrow.Author.Rules.{rules}
 use Rattle.climbs.proofs.Laws.Perches.{has_parent-far, has_parent-zero, has_parent-before, has_parent-last}
 use Rattle.climbs.proofs.perches.has_parent.Goals as goal
 

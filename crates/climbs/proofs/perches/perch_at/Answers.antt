@@ -1,7 +1,6 @@
 -- `climbs::perches::perch_at` meets its contract: the parent's number is the count of zeros before the node's one, so the sum is the one's place. Assumes nothing.
 use mathlib.Core.Path.{sym, ◌∙◌}
 use native.Mathlib.Omega.{arith}
-use borrow.Author.Rules.{rules}
 use Rattle.keymap.specs.Bits.{bit}
 use Rattle.keymap.proofs.Laws.Bits.{bit-small}
 use Rattle.climbs.proofs.Laws.Perches.{UpTold, perch-lost, perch-up}

@@ -2,7 +2,6 @@
 use mathlib.Core.Path.{sym}
 use native.Mathlib.Omega.{arith}
 use lib.ListN.{length}
-use borrow.Author.Rules.{rules}
 use Rattle.climbs.proofs.Laws.Spelling.{has_entry-low, has_entry-upto}
 use Rattle.climbs.proofs.spelling.has_entry.Goals as goal
 

@@ -1,11 +1,9 @@
 use mathlib.Core.Path.{◌≡◌, refl, sym, ap, ◌∙◌}
-use Prim.Native.Nat.{◌-◌, ◌≤◌}
+use Prim.Native.Nat.{◌-◌}
 use native.Mathlib.Omega.{arith}
 use mathlib.Core.Option.{some}
 use mathlib.Core.Bool.{true}
 use lib.ListN.{length, set, length-set}
-use borrow.Author.Rules.{rules}
-use borrow.Author.Tests.{not-true, not-false}
 use Rattle.keymap.specs.Bits.{bit}
 use Rattle.keymap.proofs.Laws.Bits.{bit-small}
 use Rattle.climbs.specs.declared.perches.Perch.{Perch}
@@ -61,7 +59,7 @@ bounds-out-left c = let l = c.loop-left in omega (arith, l.invariant.1, l.invari
 
 -- the buffer with one label more
 one_more : (c : After-parent_of)
-    → 
+    →
     let a = c.args in
     let l = c.loop-left in
     let b = bit a.words.now in
@@ -96,7 +94,7 @@ returns-in_default c =
 
 -- where the step led
 there : (c : In-Parent)
-    → 
+    →
     let a = c.args in
     RiseTold (bit a.words.now) a.len c.loop-left.at.node c.in-Parent.up
 there c =

@@ -4,8 +4,6 @@ use Prim.Native.Nat.{ℕ, ◌≤◌}
 use native.Mathlib.Omega.{arith}
 use lib.ListN.{length, take}
 use lib.Seq.{length-take-le}
-use borrow.Author.Rules.{rules}
-use Rattle.keymap.specs.Image.{Image}
 use Rattle.image.specs.Meaning.{image_in}
 use Rattle.searches.specs.CommonPrefixes.{common_part}
 use Rattle.searches.proofs.Laws.CommonPrefixes.{part-is}

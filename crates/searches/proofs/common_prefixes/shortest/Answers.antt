@@ -1,15 +1,14 @@
 use mathlib.Core.Path.{◌≡◌, sym, ap, ◌∙◌}
 use mathlib.Core.List.{[]}
-use mathlib.Core.Option.{Option, none, some}
-use Prim.Native.Nat.{ℕ, ◌+◌, ◌-◌, ◌≤◌}
+use mathlib.Core.Option.{Option, some}
+use Prim.Native.Nat.{ℕ, ◌+◌}
 use native.Mathlib.Omega.{arith}
 use lib.ListN.{length, get_or, drop}
 use lib.Seq.{drop-length}
-use borrow.Author.Rules.{rules}
 use Rattle.keymap.specs.Bits.{bit}
-use Rattle.keymap.specs.Image.{Image, bits_for}
+use Rattle.keymap.specs.Image.{bits_for}
 use Rattle.keymap.proofs.Laws.Bits.{bit-small}
-use Rattle.image.specs.Meaning.{as_image, image_in}
+use Rattle.image.specs.Meaning.{image_in}
 use Rattle.walks.specs.declared.stands.Stand.{Stand}
 use Rattle.walks.specs.declared.moves.Reached.{Reached}
 use Rattle.walks.specs.Rule.{child_by, value_of_node}

@@ -1,23 +1,13 @@
 -- `searches::common_prefixes::shortest` meets its contract. The invariant: the stand knows its zero, and what the walk finds is what is found from its node on. Assumes nothing.
-use mathlib.Core.Path.{◌≡◌, sym, ap, ◌∙◌}
-use mathlib.Core.List.{[]}
-use mathlib.Core.Option.{Option, none, some}
-use Prim.Native.Nat.{ℕ, ◌+◌, ◌-◌, ◌≤◌}
-use native.Mathlib.Omega.{arith}
-use lib.ListN.{length, get_or, drop}
-use lib.Seq.{drop-length}
-use borrow.Author.Rules.{rules}
+use mathlib.Core.Path.{◌≡◌}
+use mathlib.Core.Option.{some}
+use Prim.Native.Nat.{◌-◌, ◌≤◌}
+use lib.ListN.{length, drop}
 use Rattle.keymap.specs.Bits.{bit}
-use Rattle.keymap.specs.Image.{Image, bits_for}
-use Rattle.keymap.proofs.Laws.Bits.{bit-small}
-use Rattle.image.specs.Meaning.{as_image, image_in}
-use Rattle.walks.specs.declared.stands.Stand.{Stand}
-use Rattle.walks.specs.declared.moves.Reached.{Reached}
-use Rattle.walks.specs.Rule.{child_by, value_of_node}
-use Rattle.walks.specs.Stands.{stand_at, down_from, reached_at}
-use Rattle.walks.proofs.Laws.Stands.{down_rule, ReachedTold, reached_at-to, reached_at-lost, held_of-value, held_of-none}
-use Rattle.searches.specs.CommonPrefixes.{unless_seen, or_further, shortest_from, match_of}
-use Rattle.searches.proofs.Laws.CommonPrefixes.{shortest-end, shortest-next, shortest-lost}
+use Rattle.keymap.specs.Image.{bits_for}
+use Rattle.image.specs.Meaning.{as_image}
+use Rattle.walks.specs.Stands.{stand_at}
+use Rattle.searches.specs.CommonPrefixes.{shortest_from}
 use Rattle.searches.proofs.common_prefixes.shortest.Given as goal
 
 abbrev pub invariant-loop-depth : goal.invariant-loop-depth

@@ -1,9 +1,6 @@
 -- `searches::exact::exact_match` meets its contract: of an image that no map has it answers 6, else what the map holds. Assumes nothing.
 use mathlib.Core.Path.{◌≡◌, sym, ap, ◌∙◌}
 use mathlib.Core.Bool.{true}
-use borrow.Author.Rules.{rules}
-use borrow.Author.Tests.{not-true, not-false}
-use Rattle.keymap.specs.Image.{Image}
 use Rattle.image.specs.AcceptTest.{image_test}
 use Rattle.image.specs.Meaning.{image_in, MapImage}
 use Rattle.image.proofs.Laws.Meaning.{tested-map_image}

@@ -1,7 +1,5 @@
 -- `searches::exact::find` meets its contract: the walk's node and what it holds are the definition's. Assumes nothing.
 use mathlib.Core.Path.{sym, ◌∙◌}
-use borrow.Author.Rules.{rules}
-use Rattle.keymap.specs.Image.{Image}
 use Rattle.image.specs.Meaning.{image_in}
 use Rattle.walks.specs.Rule.{value_of_node, node_by}
 use Rattle.walks.proofs.Laws.Stands.{child_of-node, child_of-absent, held_of-value, held_of-none}
@@ -14,7 +12,6 @@ returns-in_default c =
 
 pub returns-in-Value : goal.returns-in-Value
 returns-in-Value c =
-    
     let a = c.args in
     let end = child_of-node (node_by (image_in c.args.labels c.args.values c.args.words) a.query.now) _ (sym c.end_of.ensures ∙ c.in-Node.is) in
     let held = held_of-value (value_of_node a.labels.now a.values.now c.in-Node.node) _ (sym c.value_at.ensures ∙ c.in-Value.is) in
@@ -22,7 +19,6 @@ returns-in-Value c =
 
 pub returns-in-NoValue : goal.returns-in-NoValue
 returns-in-NoValue c =
-    
     let a = c.args in
     let end = child_of-node (node_by (image_in c.args.labels c.args.values c.args.words) a.query.now) _ (sym c.end_of.ensures ∙ c.in-Node.is) in
     let held = held_of-none (value_of_node a.labels.now a.values.now c.in-Node.node) (sym c.value_at.ensures ∙ c.in-NoValue.is) in

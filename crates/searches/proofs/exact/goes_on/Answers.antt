@@ -1,11 +1,10 @@
 -- `searches::exact::goes_on` meets its contract: the walk's node and its children are the definition's. Assumes nothing.
 use mathlib.Core.Path.{sym, ap, ◌∙◌}
 use mathlib.Core.List.{[]}
-use borrow.Author.Rules.{rules}
 use lib.Dec.{ltb}
 use lib.ListN.{length}
 use Rattle.keymap.specs.Bits.{bit}
-use Rattle.keymap.specs.Image.{Image, bits_for}
+use Rattle.keymap.specs.Image.{bits_for}
 use Rattle.image.specs.Meaning.{as_image}
 use Rattle.walks.specs.declared.answers.Kids.{Kids}
 use Rattle.walks.specs.Stands.{kids_from}

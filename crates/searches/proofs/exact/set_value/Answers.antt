@@ -4,9 +4,6 @@ use Prim.Native.Nat.{ℕ, ◌-◌}
 use native.Mathlib.Omega.{arith}
 use mathlib.Core.Bool.{true}
 use lib.ListN.{set}
-use borrow.Author.Rules.{rules}
-use borrow.Author.Tests.{not-true, not-false}
-use Rattle.keymap.specs.Image.{Image}
 use Rattle.image.specs.AcceptTest.{image_test}
 use Rattle.image.specs.Meaning.{as_image, MapImage}
 use Rattle.image.proofs.Laws.Meaning.{tested-map_image}
@@ -41,7 +38,7 @@ returns-in_default c =
 
 -- the key that was found
 found : (c : In-At)
-    → 
+    →
     Found (as_image c.args.labels.now c.args.values.now c.args.words.now) c.args.query.now c.in-At.node c.in-At.old
 found c = keyed-found _ _ _ _ (sym c.find.ensures ∙ c.in-At.is)
 

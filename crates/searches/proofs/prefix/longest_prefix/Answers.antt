@@ -6,10 +6,8 @@ use native.Mathlib.Omega.{arith}
 use mathlib.Core.Bool.{true}
 use mathlib.Core.List.{[], ◌∷◌}
 use lib.ListN.{length}
-use borrow.Author.Rules.{rules}
-use borrow.Author.Tests.{not-true, not-false}
 use Rattle.keymap.specs.Bits.{bit}
-use Rattle.keymap.specs.Image.{Image, bits_for}
+use Rattle.keymap.specs.Image.{bits_for}
 use Rattle.image.specs.Accept.{entries}
 use Rattle.image.specs.AcceptTest.{image_test}
 use Rattle.image.specs.Meaning.{image_in, MapImage}
@@ -45,7 +43,7 @@ returns-in_default c =
 
 -- where the walk ended
 there : (c : In-To)
-    → 
+    →
     ReachedTold (bit c.args.words.now) (bits_for (entries (image_in c.args.labels c.args.values c.args.words))) (node_by (image_in c.args.labels c.args.values c.args.words) c.args.query.now) c.in-To.s
 there c = reached_at-to _ _ _ _ (sym c.walk.ensures ∙ c.in-To.is)
 

@@ -1,9 +1,6 @@
 -- `searches::untested::exact_match_untested` meets its contract: past the test of the lengths it answers what `find` finds. Assumes nothing.
 use mathlib.Core.Path.{◌≡◌, sym, ap, ◌∙◌}
 use mathlib.Core.Bool.{true}
-use borrow.Author.Rules.{rules}
-use borrow.Author.Tests.{not-true, not-false}
-use Rattle.keymap.specs.Image.{Image}
 use Rattle.keymap.specs.Answers.{says_value}
 use Rattle.image.specs.AcceptTest.{lengths_fit}
 use Rattle.image.specs.Meaning.{image_in}

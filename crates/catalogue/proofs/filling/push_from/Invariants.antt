@@ -1,0 +1,24 @@
+-- `catalogue::filling::push_from` meets its contract: what is said of the lines from `at` on, pushed into the pool as it stands, is what is said of all. Assumes nothing.
+use Prim.Native.Nat.{ℕ, ◌+◌, ◌-◌, ◌≤◌}
+use native.Mathlib.Omega.{arith}
+use native.Mathlib.Numerals.{add-one}
+use mathlib.Core.Path.{◌≡◌, refl, sym, ap, ap₂, ◌∙◌}
+use lib.ListN.{length, drop}
+use borrow.Author.Rules.{rules}
+use Rattle.records.specs.Words.{Pool}
+use Rattle.lines.specs.Text.{lines_of}
+use Rattle.lines.proofs.Laws.Text.{Cuts, next-none, next-cuts}
+use Rattle.lines.specs.Answers.{said_cut}
+use Rattle.catalogue.specs.Filling.{fill_from, left_from}
+use Rattle.catalogue.proofs.Laws.Filling.{fill_end, fill-goes, fill_stops}
+use Rattle.catalogue.proofs.filling.push_from.Given as goal
+
+abbrev pub invariant-loop-end : goal.invariant-loop-end
+invariant-loop-end l =
+    (l.line ≤ l.at + 1) ×
+    (length l.pool ≡ length l.initial.pool) ×
+    (fill_from l.first l.initial.pool (lines_of (drop l.from l.text)) ≡ fill_from l.line l.pool (lines_of (drop l.at l.text))) ×
+    (left_from l.initial.pool (lines_of (drop l.from l.text)) ≡ left_from l.pool (lines_of (drop l.at l.text)))
+
+abbrev pub decreases-loop-end : goal.decreases-loop-end
+decreases-loop-end l = length l.text - l.at

@@ -46,8 +46,8 @@ fn entries_fit(labels: &[u16], values: &[u32]) -> bool
 
 // The bits from the third on fit, and the ones are as many as the nodes.
 fn passes(labels: &[u16], values: &[u32], words: &[u64]) -> bool
-    requires fact_1 { length values.now ≡ length labels.now }
-    requires fact_2 { Framed labels.now words.now }
+    requires as_many { length values.now ≡ length labels.now }
+    requires framed { Framed labels.now words.now }
     ensures { result ≡ passes_from (lent_image labels values words) (2 * length labels.now + 1) 2 1 0 }
 {
     let n = labels.len();

@@ -94,8 +94,8 @@ pub fn digit_count(number: u32) -> usize
 
 // Puts the `count` digits of a number at a position.
 pub fn put_decimal(number: u32, count: usize, at: usize, out: &mut [u8])
-    requires count_value { count ≡ length (decimal number) }
-    requires count_in_bounds { at + count ≤ length out.old }
+    requires counted { count ≡ length (decimal number) }
+    requires room { at + count ≤ length out.old }
     ensures { out.new ≡ take at out.old ++ over (decimal number) (drop at out.old) }
 {
     let mut rest = number;

@@ -9,8 +9,8 @@ use crate::decimal::put_decimal;
 
 // `digits` is how many digits the number has.
 pub fn put_line(key: &[u8], number: u32, digits: usize, out: &mut [u8])
-    requires digits_value { digits ≡ length (decimal number) }
-    requires number_in_bounds { length (tab_text (key.now, number)) ≤ length out.old }
+    requires counted { digits ≡ length (decimal number) }
+    requires room { length (tab_text (key.now, number)) ≤ length out.old }
     ensures { out.new ≡ over (tab_text (key.now, number)) out.old }
 {
     let at = key.len();

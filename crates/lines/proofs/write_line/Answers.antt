@@ -44,7 +44,7 @@ returns-then-out-length c =
 pub put_line-requires : goal.put_line-requires
 put_line-requires c =
     let a = c.args in
-    record { digits_value = c.digit_count-digits.ensures; number_in_bounds = omega (arith, c.digit_count-digits.ensures, length-tab_text (a.key.now, a.number)) }
+    record { counted = c.digit_count-digits.ensures; room = omega (arith, c.digit_count-digits.ensures, length-tab_text (a.key.now, a.number)) }
 
 pub returns : goal.returns
 returns c =

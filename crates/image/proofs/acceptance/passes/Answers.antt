@@ -8,17 +8,17 @@ use Rattle.image.proofs.acceptance.passes.Goals as goal
 pub returns-then-ones_before-n : goal.returns-then-ones_before-n
 returns-then-ones_before-n c =
     let a = c.args in
-    sym (count-stop a.labels.now a.values.now a.words.now c.requires.fact_2 (λ e. c.if-ones_before-n.true (c.ones_before.ensures ∙ e)))
+    sym (count-stop a.labels.now a.values.now a.words.now c.requires.framed (λ e. c.if-ones_before-n.true (c.ones_before.ensures ∙ e)))
 
 pub returns-then-not-entries_fit : goal.returns-then-not-entries_fit
 returns-then-not-entries_fit c =
     let a = c.args in
-    sym (entries-stop a.labels.now a.values.now a.words.now c.requires.fact_2 (sym c.entries_fit.ensures ∙ c.if-not-entries_fit.true))
+    sym (entries-stop a.labels.now a.values.now a.words.now c.requires.framed (sym c.entries_fit.ensures ∙ c.if-not-entries_fit.true))
 
 -- what is known of the words then
 counted : (c : Else-ones_before-n) → CountedWords c.args.labels.now c.args.words.now
 counted c =
-    record { framed = c.requires.fact_2; ones = sym c.ones_before.ensures ∙ c.if-ones_before-n.false }
+    record { framed = c.requires.framed; ones = sym c.ones_before.ensures ∙ c.if-ones_before-n.false }
 
 pub words_fit-requires : goal.words_fit-requires
 words_fit-requires c = counted (goal.at.words_fit-requires c).Else-ones_before-n

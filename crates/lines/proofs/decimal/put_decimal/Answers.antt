@@ -51,4 +51,4 @@ pub returns : goal.returns
 returns c =
     let a = c.args in
     done c.loop-left.out a.at c.loop-left.left c.loop-left.rest (omega arith) ∙ c.loop-left.invariant.2
-    ∙ whole a.out.now a.at a.number a.count c.requires.count_value
+    ∙ whole a.out.now a.at a.number a.count c.requires.counted

@@ -41,19 +41,19 @@ bounds-out-at c =
 pub put_decimal-requires : goal.put_decimal-requires
 put_decimal-requires c =
     let a = c.args in
-    record { count_value = c.requires.digits_value; count_in_bounds = omega (arith, c.requires.digits_value, c.requires.number_in_bounds, c.put_bytes.auto.out, length-set c.put_bytes.new.out (length a.key.now) tab, length-tab_text (a.key.now, a.number)) }
+    record { counted = c.requires.counted; room = omega (arith, c.requires.counted, c.requires.room, c.put_bytes.auto.out, length-set c.put_bytes.new.out (length a.key.now) tab, length-tab_text (a.key.now, a.number)) }
 
 pub overflow_add-out-2 : goal.overflow_add-out-2
 overflow_add-out-2 c =
-    omega (arith, c.requires.digits_value, c.requires.number_in_bounds, length-tab_text (c.args.key.now, c.args.number))
+    omega (arith, c.requires.counted, c.requires.room, length-tab_text (c.args.key.now, c.args.number))
 
 pub bounds-out-at-2 : goal.bounds-out-at-2
 bounds-out-at-2 c =
     let a = c.args in
     omega (
       arith,
-      c.requires.digits_value,
-      c.requires.number_in_bounds,
+      c.requires.counted,
+      c.requires.room,
       c.put_bytes.auto.out,
       c.put_decimal.auto.out,
       length-set c.put_bytes.new.out (length a.key.now) tab,
@@ -64,4 +64,4 @@ pub returns : goal.returns
 returns c =
     let a = c.args in
     let p = c.requires in
-    put a.key.now _ _ a.out.now a.number a.digits p.digits_value p.number_in_bounds c.put_bytes.ensures c.put_decimal.ensures
+    put a.key.now _ _ a.out.now a.number a.digits p.counted p.room c.put_bytes.ensures c.put_decimal.ensures

@@ -9,12 +9,12 @@ text has moved away tries nothing, and `rt ci` would tell so only after it has p
 An edit is lines, in the form that `rt` reads:
 
     # why the program is wrong
-    refuses: NAME       a function (pool::push) or a law (Laws.Push.push-left) that must be refused for itself; one or more
+    # refuses: NAME     a function (pool::push) or a law (Laws.Push.push-left) that must be refused for itself; one or more
     file: src/lib.rt    a file of the crate's src/, specs/ or proofs/
     old: TEXT           what stands there exactly once, on one line
     new: TEXT           what takes its place
 
-`rt` passes over every line that begins with none of `file: `, `old: ` and `new:`, so over `refuses: ` too.
+`rt` reads the lines that begin with `file: `, `old: ` and `new:`, passes over those that begin with `#`, and tells of any other.
 """
 import re
 import sys
@@ -24,6 +24,7 @@ from pathlib import Path
 ROOT = Path(__file__).resolve().parents[2]
 FOLDERS = ('must-fail', 'wrong')
 PARTS = ('src', 'specs', 'proofs')
+REFUSES = '# refuses: '
 
 
 class Unfit(Exception):
@@ -40,8 +41,8 @@ class Edit:
         self.pairs, self.refuses = [], []
         file = old = ''
         for line in path.read_text('utf-8').split('\n'):
-            if line.startswith('refuses: '):
-                self.refuses.append(line[9:].strip())
+            if line.startswith(REFUSES):
+                self.refuses.append(line.removeprefix(REFUSES).strip())
             elif line.startswith('file: '):
                 file = line[6:]
             elif line.startswith('old: '):

@@ -12,7 +12,7 @@ use Rattle.keymap.specs.Key.{Key}
 use Rattle.keymap.specs.Map.{Entry, Map, Rising}
 use Rattle.keymap.specs.Queries.{least_above}
 use Rattle.keymap.specs.Image.{Image}
-use Rattle.keymap.specs.Paths.{path_of, node_of}
+use Rattle.keymap.specs.Paths.{node_of}
 use Rattle.keymap.specs.Decode.{image_map}
 use Rattle.keymap.proofs.Laws.Queries.{least_above-next}
 use Rattle.keymap.proofs.Laws.Paths.{node_of-node, path_of-node_of}

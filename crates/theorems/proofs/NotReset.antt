@@ -3,7 +3,7 @@ use Prim.Native.Nat.{ℕ}
 use mathlib.Core.Path.{◌≡◌, sym, ap, subst, ◌∙◌}
 use mathlib.Core.List.{List, [], ◌∷◌}
 use native.Mathlib.Omega.{arith}
-use Rattle.keymap.specs.Map.{Map, Catalogue}
+use Rattle.keymap.specs.Map.{Catalogue}
 use Rattle.keymap.specs.Image.{Image, image}
 use Rattle.records.specs.Words.{Pool, Bounded, capacity}
 use Rattle.records.specs.Sound.{Sound}

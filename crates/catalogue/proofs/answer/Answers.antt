@@ -4,7 +4,6 @@ use mathlib.Core.Bool.{Bool, true, false, not}
 use native.Mathlib.Omega.{arith}
 use lib.ListN.{take}
 use lib.Seq.{length-take-le}
-use borrow.Author.Rules.{rules}
 use Rattle.catalogue.specs.declared.filling.Filled.{Filled}
 use Rattle.catalogue.specs.Filling.{said_filled, HeldIf}
 use Rattle.catalogue.proofs.Laws.Putting.{length-refused}

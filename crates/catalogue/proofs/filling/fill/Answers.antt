@@ -1,6 +1,5 @@
 -- `catalogue::filling::fill` meets its contract: the lines are pushed into the pool that was reset. Assumes nothing.
 use native.Mathlib.Omega.{arith}
-use borrow.Author.Rules.{rules}
 use Rattle.catalogue.proofs.Laws.Filling.{bytes_of}
 use Rattle.catalogue.proofs.Laws.Program.{fills}
 use Rattle.catalogue.proofs.filling.fill.Goals as goal

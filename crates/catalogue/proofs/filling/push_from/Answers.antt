@@ -1,9 +1,8 @@
-use Prim.Native.Nat.{ℕ, ◌+◌, ◌-◌, ◌≤◌}
+use Prim.Native.Nat.{ℕ}
 use native.Mathlib.Omega.{arith}
 use native.Mathlib.Numerals.{add-one}
-use mathlib.Core.Path.{◌≡◌, refl, sym, ap, ap₂, ◌∙◌}
-use lib.ListN.{length, drop}
-use borrow.Author.Rules.{rules}
+use mathlib.Core.Path.{refl, sym, ap, ap₂, ◌∙◌}
+use lib.ListN.{drop}
 use Rattle.records.specs.Words.{Pool}
 use Rattle.lines.specs.Text.{lines_of}
 use Rattle.lines.proofs.Laws.Text.{Cuts, next-none, next-cuts}
@@ -43,7 +42,6 @@ returns-then-number-ne0 c =
 
 pub overflow_add-line : goal.overflow_add-line
 overflow_add-line c =
-    
     let k = cut (goal.at.overflow_add-line c).In-Line in
     omega (arith, k.moves, k.within, c.loop-end.invariant.0, c.well_formed.0.1)
 
@@ -54,7 +52,6 @@ loop-end-smaller c =
 
 pub loop-end-preserved : goal.loop-end-preserved
 loop-end-preserved c =
-    
     let i = c.loop-end in
     let k = cut (goal.at.loop-end-preserved c).In-Line in
     let rest = lines_of (drop c.in-Line.next c.args.text.now) in

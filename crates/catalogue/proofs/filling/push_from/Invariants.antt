@@ -1,16 +1,9 @@
 -- `catalogue::filling::push_from` meets its contract: what is said of the lines from `at` on, pushed into the pool as it stands, is what is said of all. Assumes nothing.
-use Prim.Native.Nat.{ℕ, ◌+◌, ◌-◌, ◌≤◌}
-use native.Mathlib.Omega.{arith}
-use native.Mathlib.Numerals.{add-one}
-use mathlib.Core.Path.{◌≡◌, refl, sym, ap, ap₂, ◌∙◌}
+use Prim.Native.Nat.{◌+◌, ◌-◌, ◌≤◌}
+use mathlib.Core.Path.{◌≡◌}
 use lib.ListN.{length, drop}
-use borrow.Author.Rules.{rules}
-use Rattle.records.specs.Words.{Pool}
 use Rattle.lines.specs.Text.{lines_of}
-use Rattle.lines.proofs.Laws.Text.{Cuts, next-none, next-cuts}
-use Rattle.lines.specs.Answers.{said_cut}
 use Rattle.catalogue.specs.Filling.{fill_from, left_from}
-use Rattle.catalogue.proofs.Laws.Filling.{fill_end, fill-goes, fill_stops}
 use Rattle.catalogue.proofs.filling.push_from.Given as goal
 
 abbrev pub invariant-loop-end : goal.invariant-loop-end

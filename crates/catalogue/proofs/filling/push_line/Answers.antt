@@ -2,7 +2,6 @@
 use Prim.Native.Nat.{ℕ}
 use mathlib.Core.Path.{sym, ap, ◌∙◌}
 use mathlib.Core.List.{[], ◌∷◌}
-use borrow.Author.Rules.{rules}
 use Rattle.keymap.specs.Key.{Key}
 use Rattle.keymap.specs.Answers.{answer_number}
 use Rattle.pool.specs.Push.{push_says, push_pool}
@@ -19,7 +18,6 @@ returns-in_default c =
 
 pub returns : goal.returns
 returns c =
-    
     let p = c.args.pool.now in
     let entry = entry-said c.args.line.now _ _ (sym c.tab_line-parsed.ensures ∙ ap said_parsed c.in-Entry.is) in
     let key = c.tab_line_key.ensures.key in record { answer = ap (λ (n : ℕ). n ∷ []) c.number-2.ensures ∙ pushed-said c.push-pushed.result ∙ c.push-pushed.ensures.answer ∙ ap (push_says p) key ∙ sym (ap (line_says p) entry); left = c.push-pushed.ensures.left ∙ ap (λ (k : Key). push_pool p k c.in-Entry.number) key ∙ sym (ap (line_pool p) entry) }

@@ -1,15 +1,10 @@
 -- `catalogue::listing::list_pool` meets its contract: the build is accepted, and what is lent of the buffers then is the image of the pool's map. Assumes nothing.
 use mathlib.Core.Path.{◌≡◌, refl, sym, ap, subst, ◌∙◌}
-use mathlib.Core.Logic.{inl, inr}
 use mathlib.Core.Bool.{true}
-use mathlib.Core.List.{[], ◌∷◌}
 use Prim.Native.Nat.{ℕ, ◌≤◌}
 use native.Mathlib.Omega.{arith}
 use lib.ListN.{length}
 use lib.Seq.{length-take-le}
-use borrow.Author.Rules.{rules}
-use types.Run.{OneOf}
-use denote.Enum.Declared.{tag_of}
 use Rattle.keymap.specs.Map.{Map}
 use Rattle.keymap.specs.Bits.{words_for}
 use Rattle.keymap.specs.Image.{bits_for}
@@ -17,7 +12,6 @@ use Rattle.keymap.specs.Buffers.{over}
 use Rattle.records.proofs.Laws.Meaning.{map-catalogue}
 use Rattle.pool.specs.Answers.{accepted}
 use Rattle.image.specs.declared.answers.Built.{Built}
-use Rattle.image.specs.contracts.answers.Built as of-built
 use Rattle.image.specs.Build.{said_built}
 use Rattle.lines.specs.Writing.{map_text}
 use Rattle.catalogue.proofs.Laws.Building.{LentParts, word-bounded, lent-parts}
@@ -50,7 +44,7 @@ returns-in_default c =
 
 -- what the build left where its answer is n, if so many words are lent
 built : (c : In-Nodes) (w : ℕ) → w ≡ words_for (bits_for c.in-Nodes.n)
-    → 
+    →
     LentParts c.args.pool.now c.build.new.labels c.build.new.values c.build.new.words c.in-Nodes.n w
 built c w sized =
     let a = c.args in
@@ -60,7 +54,7 @@ built c w sized =
 
 -- as many as are lent
 shown : (c : After-words_for)
-    → 
+    →
     LentParts c.args.pool.now c.build.new.labels c.build.new.values c.build.new.words c.in-Nodes.n c.words_for.result
 shown c = built (goal.at.slice_bounds-list_image-end-5 c).In-Nodes c.words_for.result c.words_for.ensures
 

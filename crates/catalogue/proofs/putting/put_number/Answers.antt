@@ -4,7 +4,6 @@ use mathlib.Core.List.{List, ◌++◌}
 use Prim.Native.Nat.{ℕ, ◌+◌}
 use native.Mathlib.Omega.{arith}
 use lib.ListN.{length, take, drop}
-use borrow.Author.Rules.{rules}
 use Rattle.keymap.specs.Buffers.{over}
 use Rattle.catalogue.proofs.Laws.Putting.{fewest-decimal}
 use Rattle.catalogue.proofs.putting.put_number.Goals as goal

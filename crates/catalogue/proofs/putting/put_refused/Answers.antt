@@ -1,7 +1,6 @@
 -- `catalogue::putting::put_refused` meets its contract: each call puts its text behind what stands there. Assumes nothing.
 use mathlib.Core.List.{[], ◌∷◌, ◌++◌}
 use native.Mathlib.Omega.{arith}
-use borrow.Author.Rules.{rules}
 use Rattle.lines.specs.Bytes.{line_feed}
 use Rattle.lines.specs.Decimal.{decimal}
 use Rattle.catalogue.specs.Program.{refused_word, line_word}

@@ -1,8 +1,8 @@
-use mathlib.Core.Path.{◌≡◌, refl, ap, ◌∙◌}
+use mathlib.Core.Path.{refl, ap, ◌∙◌}
 use mathlib.Core.List.{List, ◌++◌}
-use Prim.Native.Nat.{ℕ, ◌+◌, ◌-◌, ◌≤◌}
+use Prim.Native.Nat.{ℕ, ◌+◌}
 use native.Mathlib.Omega.{arith}
-use lib.ListN.{length, take, get_or, length-set}
+use lib.ListN.{take, get_or, length-set}
 use lib.Seq.{take_all}
 use Rattle.keymap.specs.Buffers.{over}
 use Rattle.catalogue.proofs.Laws.Putting.{over-at, put-none, put-turn}
@@ -25,6 +25,9 @@ shape_of-out c = c.loop-i.invariant.1
 
 pub returns : goal.returns
 returns c =
-    let a = c.args in record { answer = omega arith; left = c.loop-i.invariant.2
+    let a = c.args in record {
+      answer = omega arith;
+      left = c.loop-i.invariant.2
           ∙ ap (λ (s : List ℕ). over (take a.at a.out.now ++ s) a.out.now) (take_all c.loop-i.i a.text.now c.loop-i-test.false)
-          ∙ over-at a.at a.text.now a.out.now (omega arith) }
+          ∙ over-at a.at a.text.now a.out.now (omega arith);
+    }

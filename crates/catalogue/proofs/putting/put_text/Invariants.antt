@@ -1,12 +1,9 @@
 -- `catalogue::putting::put_text` meets its contract. The invariant of its loop: the first `i` bytes of the text stand behind what stood before `at`. Assumes nothing.
-use mathlib.Core.Path.{◌≡◌, refl, ap, ◌∙◌}
-use mathlib.Core.List.{List, ◌++◌}
-use Prim.Native.Nat.{ℕ, ◌+◌, ◌-◌, ◌≤◌}
-use native.Mathlib.Omega.{arith}
-use lib.ListN.{length, take, get_or, length-set}
-use lib.Seq.{take_all}
+use mathlib.Core.Path.{◌≡◌}
+use mathlib.Core.List.{◌++◌}
+use Prim.Native.Nat.{◌-◌, ◌≤◌}
+use lib.ListN.{length, take}
 use Rattle.keymap.specs.Buffers.{over}
-use Rattle.catalogue.proofs.Laws.Putting.{over-at, put-none, put-turn}
 use Rattle.catalogue.proofs.putting.put_text.Given as goal
 
 abbrev pub invariant-loop-i : goal.invariant-loop-i

@@ -3,7 +3,6 @@ use mathlib.Core.List.{[], ◌∷◌, ◌++◌}
 use native.Mathlib.Omega.{arith}
 use Prim.Native.Nat.{◌≤◌}
 use lib.ListN.{length, take}
-use borrow.Author.Rules.{rules}
 use Rattle.lines.specs.Bytes.{tab, line_feed}
 use Rattle.lines.specs.Decimal.{decimal}
 use Rattle.lines.proofs.Laws.Writing.{length-tab_text}

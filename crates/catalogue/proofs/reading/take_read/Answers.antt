@@ -1,6 +1,5 @@
 -- `catalogue::reading::take_read` meets its contract: each way out is a case of `take_read`. Assumes nothing.
 use native.Mathlib.Omega.{arith}
-use borrow.Author.Rules.{rules}
 use mir.Facts.{to_z-of_z}
 use mathlib.Core.Path.{refl}
 use Rattle.catalogue.proofs.Laws.Reading.{count_fits, take-over, take-failed, take_ends, take-goes, take-full}

@@ -3,10 +3,10 @@
 -- What the text is answered is told without the pool in `TextAnswers`; here is what is left of the pool.
 --
 --     said_filled            the answers: 0 where every line is pushed, the number and the line of a refusal
---     line_says, line_pool    one line, by its entry: the refusal's number, or 0, and the pool that is left
---     fill_from, left_from    lines in turn, the first of them with a given number
+--     line_says, line_pool   one line, by its entry: the refusal's number, or 0, and the pool that is left
+--     fill_from, left_from   lines in turn, the first of them with a given number
 --     fill_pool              what a pool is after a reset and the lines of a text
---     HeldIf                what the pool then holds
+--     HeldIf                 what the pool then holds
 -- Assumes nothing.
 use Rattle.std.specs.Prelude.{ℕ, suc, ◌≡◌, cond, List, [], ◌∷◌, ◌++◌}
 use Rattle.std.proofs.Math.Option.{Option, none, some}

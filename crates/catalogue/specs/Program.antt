@@ -1,10 +1,9 @@
 -- What the program writes (01, module 8), by what was read: the bytes of the file, or none where it could not be read.
 --
---     program_text    "A file that can't be read gives only `no file` and LF"; more than 65,536 bytes only "`too long`
---                    and LF"; "The first refusal stops it, and
---                    then it writes only `refused`, space, number, ` line `, line number from 1, LF"; else "the listing
---                    in the same form, each line with LF"
---     answer_text     the same of a text that was read, by what it is answered
+--     program_text   "A file that can't be read gives only `no file` and LF"; more than 65,536 bytes only "`too long`
+--                    and LF"; "The first refusal stops it, and then it writes only `refused`, space, number, ` line `,
+--                    line number from 1, LF"; else "the listing in the same form, each line with LF"
+--     answer_text    the same of a text that was read, by what it is answered
 -- Assumes nothing.
 use Rattle.std.specs.Prelude.{ℕ, List, [], ◌∷◌, ◌++◌}
 use Rattle.std.proofs.Math.Option.{Option, none, some}
@@ -34,8 +33,8 @@ line_word = 32 ∷ 108 ∷ 105 ∷ 110 ∷ 101 ∷ 32 ∷ []
 unfoldable pub refused_text : (number line : ℕ) → List ℕ
 refused_text number line = refused_word ++ (decimal number ++ (line_word ++ (decimal line ++ (line_feed ∷ []))))
 
--- by what `text_says` says: nothing of a text that is too long, the number and the line of a refusal, 0 where every line
--- is pushed
+-- by what `text_says` says: nothing of a text that is too long, the number and the line of a refusal, 0 where every
+-- line is pushed
 abbrev pub answer_text : Map → List ℕ → List ℕ
 answer_text m [] = too_long_text
 answer_text m (n ∷ []) = map_text m

@@ -1,9 +1,8 @@
 -- What is left of the rooms that the program works in, by what was read.
 --
---     program_pool    the pool: a file that is too long or could not be read leaves it as it was
---     built_pool      the pool that is built: that of a text whose lines are all pushed; else no words, of which no
---                    build writes anything;
---                    `built_from`: by what a contract names
+--     program_pool   the pool: a file that is too long or could not be read leaves it as it was
+--     built_pool     the pool that is built: that of a text whose lines are all pushed; else no words, of which no
+--                    build writes anything; `built_from`: by what a contract names
 --     RoomsLeft      what a call leaves: the bytes written, and each room
 -- Assumes nothing.
 use Rattle.std.specs.Prelude.{◌≡◌, cond, List, [], ℕ, length, ltb}

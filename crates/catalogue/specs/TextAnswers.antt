@@ -3,13 +3,13 @@
 -- its map; a line is 3 for the empty key, and 4 exactly when the distinct nonempty prefixes, its own counted in, would
 -- exceed the capacity.
 --
---     map_line_says, map_line_after   one line, by its entry: the refusal's number, or 0, and the map with the entry
---                                 inserted
---     text_from                    lines in turn, the first of them with a given number, after lines that left a given
---                                 map
---     text_says                    a text of any length, its lines numbered from 1, in an empty pool
---     entries_in                   the entries of lines, and `AllEntries`: each has one, and of a nonempty key
---     text_map                     the map of a text's entries
+--     map_line_says, map_line_after  one line, by its entry: the refusal's number, or 0, and the map with the entry
+--                                    inserted
+--     text_from                      lines in turn, the first of them with a given number, after lines that left a
+--                                    given map
+--     text_says                      a text of any length, its lines numbered from 1, in an empty pool
+--     entries_in                     the entries of lines, and `AllEntries`: each has one, and of a nonempty key
+--     text_map                       the map of a text's entries
 -- Assumes nothing.
 use Rattle.std.specs.Prelude.{ℕ, suc, ◌≡◌, cond, List, [], ◌∷◌, ◌++◌, length, ltb}
 use Rattle.std.proofs.Math.Option.{Option, none, some}

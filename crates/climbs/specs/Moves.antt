@@ -3,7 +3,7 @@
 -- Any node number and any place may be handed in; proofs/Laws/Moves has that a perch which knows its one gives what the
 -- rule gives.
 --
---     leads         a perch may have children: fewer zeros than its node's number stand before its one
+--     leads          a perch may have children: fewer zeros than its node's number stand before its one
 --     first_from     the first child of a perch
 --     beside_from    its next sibling
 --     climb_from     the next sibling of the nearest that has one

@@ -8,7 +8,7 @@
 --     climb_by       the next sibling of the nearest that has one, of a node and its ancestors below a top
 --     advance_by     the next node below a top
 --     next_by        the next node below a top that has a value, and the value
---     UnderTop      a node of a map is at or below a top
+--     UnderTop       a node of a map is at or below a top
 --     given_by       an entry of the map as its node's number and value
 -- Assumes nothing.
 use Rattle.std.specs.Prelude.{ℕ, zero, suc, ◌+◌, Bool, cond, ◌&&◌, List, length, eqb, ltb}
@@ -73,7 +73,8 @@ unfoldable pub sought_from : List ℕ → List ℕ → (ℕ → ℕ) → ℕ →
 sought_from ls vs b len top zero at = none
 sought_from ls vs b len top (suc left) none = none
 sought_from ls vs b len top (suc left) (some k) =
-    or_else (with_value k (value_of_node ls vs k)) (sought_from ls vs b len top left (advance_by b len (length ls + 1) top k))
+    or_else (with_value k (value_of_node ls vs k))
+    (sought_from ls vs b len top left (advance_by b len (length ls + 1) top k))
 
 -- there are n+1 nodes, so as many steps lead past all of them
 unfoldable pub next_by : List ℕ → List ℕ → (ℕ → ℕ) → ℕ → ℕ → ℕ → Option (ℕ × ℕ)

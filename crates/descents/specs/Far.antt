@@ -1,10 +1,10 @@
 -- What the passing of whole words finds, on any words and numbers.
 --
---     zeros_up_to     the zeros before word w
+--     zeros_up_to    the zeros before word w
 --     zero_bits      the zeros of word w, as ones of a number
---     PassedFrom    words are passed, with as many zeros as are no longer left
---     Ready         a word that has the k-th zero from a word on, with its sums
---     ZeroWord      the first word from one on that has a zero
+--     PassedFrom     words are passed, with as many zeros as are no longer left
+--     Ready          a word that has the k-th zero from a word on, with its sums
+--     ZeroWord       the first word from one on that has a zero
 --     stand_near     a node with a zero that is counted from the start of a word on
 --     went_on        where a walk ends that whole words took so far, and `ended_at`: the stand that its end stands for
 -- Assumes nothing.
@@ -64,11 +64,13 @@ ZeroWord ws whole first w = w < whole → HasZero ws first w
 -- a node, and the place of the zero that is the `left`-th from the start of word kept-1 on, or of word 0 where `kept`
 -- is 0
 abbrev pub stand_near : (ℕ → ℕ) → ℕ → ℕ → ℕ → ℕ → Stand
-stand_near b len node kept left = record { node = node; zero = or_end len (zero_from b len ((kept - 1) * word_bits) left) }
+stand_near b len node kept left =
+    record { node = node; zero = or_end len (zero_from b len ((kept - 1) * word_bits) left) }
 
 abbrev pub went_on : List ℕ → (ℕ → ℕ) → ℕ → Key → Went → Reached
 went_on ls b len q Lost = NoPath
-went_on ls b len q (Gone node steps kept left) = down_along ls b len (drop steps q) (To (stand_near b len node kept left))
+went_on ls b len q (Gone node steps kept left) =
+    down_along ls b len (drop steps q) (To (stand_near b len node kept left))
 
 abbrev pub ended_at : (ℕ → ℕ) → ℕ → Ended → Reached
 ended_at b len (Near node kept left) = To (stand_near b len node kept left)

@@ -3,9 +3,9 @@
 -- `Accepted` is the list that follows there, a field for each condition and the condition's words over it.
 --
 --     entries       n: "The number n is the length of the label slice"
---     node_entry     the label entry of a node: "node m of 2 or more has entry m-2"
---     parent_in      the number of a node's parent, as `louds` finds it
---     kids_in        the numbers of its children
+--     node_entry    the label entry of a node: "node m of 2 or more has entry m-2"
+--     parent_in     the number of a node's parent, as `louds` finds it
+--     kids_in       the numbers of its children
 --     Accepted      the conditions
 --     OfMap         "some map with nonempty keys has it", and the map is no larger than an image can be
 --     LentSlices    what any lent slices hold: words of 64 bits and values of 32

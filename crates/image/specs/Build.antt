@@ -4,7 +4,7 @@
 --     build_says        what build answers
 --     build_labels, ..  what it leaves of each buffer: a refusal leaves all as they were
 --     of_lent           one of these, of the four buffers that a contract names
---     CanQueue, ..     what the loops ask
+--     CanQueue, ..      what the loops ask
 -- Assumes nothing.
 use Rattle.std.specs.Prelude.{ℕ, ◌+◌, ◌^◌, ◌≤◌, ◌<◌, ◌≡◌, Bool, cond, ◌&&◌, List, [], ◌∷◌, length, get_or, leb, ltb}
 use Rattle.std.specs.Borrow.{MutBor}

@@ -2,10 +2,10 @@
 -- map of the keys that were accepted since the last reset.
 -- A build leaves the pool as it was, so the pool and the map afterwards are those of the other calls.
 --
---     Call               a call on the pool alone, or a build
+--     Call                a call on the pool alone, or a build
 --     pool_calls          the calls on the pool alone
 --     history_says        what the calls answer in turn
---     map_history_says     what they answer by the map
+--     map_history_says    what they answer by the map
 -- Assumes nothing.
 use Rattle.std.specs.Prelude.{ℕ, List, [], ◌∷◌, length}
 use Rattle.keymap.specs.Map.{Map}
@@ -31,6 +31,7 @@ history_says p (build ls vs ws qs ∷ cs) = build_says p ls vs ws qs ∷ history
 -- where there is room for `most` records
 unfoldable pub map_history_says : ℕ → Map → List Call → List (List ℕ)
 map_history_says most m [] = []
-map_history_says most m (on_pool c ∷ cs) = history.map_says most m c ∷ map_history_says most (history.call_map most m c) cs
+map_history_says most m (on_pool c ∷ cs) =
+    history.map_says most m c ∷ map_history_says most (history.call_map most m c) cs
 map_history_says most m (build ls vs ws qs ∷ cs) =
     fit_says (length (prefixes m)) (length ls) (length vs) (length ws) (length qs) ∷ map_history_says most m cs

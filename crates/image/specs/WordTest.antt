@@ -9,9 +9,9 @@
 --     leaf_at          a node closed by a zero right after a zero may be without child
 --     word_fits        a word's three tests
 --     word_at          those of an image's word w
---     Framed          what is known of labels and words before the ones are counted
---     CountedWords    and before the words are tested
---     WordInside      the entries that a word's tests read are there
+--     Framed           what is known of labels and words before the ones are counted
+--     CountedWords     and before the words are tested
+--     WordInside       the entries that a word's tests read are there
 -- Assumes nothing.
 use Rattle.std.specs.Prelude.{◌≡◌, ℕ, zero, suc, ◌+◌, ◌-◌, ◌*◌, ◌/◌, ◌%◌, ◌^◌, ◌≤◌, ◌<◌, Bool, true, cond, ◌&&◌, List, length, get_or, eqb, ltb, leb}
 use Rattle.std.specs.Int.Bits.{bit_and, bit_or}
@@ -43,7 +43,8 @@ sibling_at ls x prev before t =
 -- z has a one for each zero, `before` counts the zeros before the word, and `lone` has the places whose bit before is a
 -- zero
 unfoldable pub leaf_at : List ℕ → ℕ → ℕ → ℕ → ℕ → Bool
-leaf_at ls z lone before t = cond (eqb (digit (bit_and z lone) t) 0) true (childless_fits ls (before + ones (z % 2 ^ t)))
+leaf_at ls z lone before t =
+    cond (eqb (digit (bit_and z lone) t) 0) true (childless_fits ls (before + ones (z % 2 ^ t)))
 
 -- ---- a word
 

@@ -1,7 +1,7 @@
 -- What several calls say in numbers: a refusal is its number alone, every other answer begins with 0 and goes on with
 -- what it tells.
 --
---     given         whether something was found
+--     given          whether something was found
 --     says_value     a value found, or no match
 --     says_flag      yes, or no
 --     says_written   a key that is to be written to a lent buffer, and `written_to`: the buffer afterwards

@@ -3,7 +3,7 @@
 -- A bit is the number 0 or 1.
 --
 --     bit           the bit of some words at a place
---     sum_below      f 0 + f 1 + .. + f (n - 1)
+--     sum_below     f 0 + f 1 + .. + f (n - 1)
 --     table         f from an index on, as a list
 --     pack          the words of a list of bits
 -- Assumes nothing.

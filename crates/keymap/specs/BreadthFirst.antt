@@ -3,7 +3,7 @@
 --
 --     Row           what an image says of a node: label, value, number of children
 --     rows          the rows of a forest's nodes, in the order of the queue
---     forest_image   the image that is written from them
+--     forest_image  the image that is written from them
 --     emitted       the bits as `trie_builder.rs` pushes them, one for each element that its queue gives
 -- Assumes nothing.
 use Rattle.std.specs.Prelude.{ℕ, zero, suc, ◌+◌, ◌*◌, List, [], ◌∷◌, ◌++◌, map}
@@ -41,7 +41,8 @@ unfoldable pub forest_bits : Forest → List ℕ
 forest_bits f = sequence (width f ∷ map row_degree (rows f))
 
 unfoldable pub forest_image : Forest → Image
-forest_image f = record { labels = map row_label (rows f); values = map row_value (rows f); words = pack (forest_bits f) }
+forest_image f =
+    record { labels = map row_label (rows f); values = map row_value (rows f); words = pack (forest_bits f) }
 
 -- the queue of `naive_trie_b_f_iter.rs`: runs of siblings, each with the phantom sibling that ends it. A node gives a 1
 -- and puts its children,

@@ -2,9 +2,9 @@
 -- the trees of the rows behind a row stand in a queue, and its children are the last of them.
 --
 --     rebuild       the forest of some rows
---     rows_in        the rows that an image tells
+--     rows_in       the rows that an image tells
 --     decode        its forest
---     image_map      its map
+--     image_map     its map
 -- Assumes nothing.
 use Rattle.std.specs.Prelude.{ℕ, zero, suc, ◌-◌, List, [], ◌∷◌, length, drop}
 use Rattle.std.proofs.Math.Option.{none}

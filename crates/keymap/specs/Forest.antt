@@ -5,10 +5,10 @@
 --     Tree          what hangs below a path: a value, perhaps, and the children
 --     branch        what hangs below a label among siblings
 --     descend       what hangs below a path
---     value_at       the value at a path
+--     value_at      the value at a path
 --     grow          the tree with a path's value set
---     tree_of        the tree of a map
---     list_tree      the map of a tree: depth first, so rising
+--     tree_of       the tree of a map
+--     list_tree     the map of a tree: depth first, so rising
 --     Orderly       siblings rise, and a node without value has a child: exactly the tries of maps
 --     size, width   how many nodes, how many siblings
 -- Assumes nothing.

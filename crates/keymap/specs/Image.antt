@@ -8,7 +8,7 @@
 --     image_bits     1, 0, then for each node in breadth-first order one 1 per child and a 0
 --     image_labels   for each node but the root its label, plus 256 if it has a value
 --     image_values   for each node but the root its value, 0 if none
---     image         the three slices of the image
+--     image          the three slices of the image
 -- Assumes nothing.
 use Rattle.std.specs.Prelude.{ℕ, suc, ◌+◌, ◌*◌, List, [], ◌∷◌, map, length}
 use Rattle.keymap.specs.Key.{Key, begins_with, last_byte}

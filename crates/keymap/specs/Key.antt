@@ -1,12 +1,12 @@
 -- Keys, and the byte order in which 01 has listings rise.
 --
---     Key           the bytes of a key, first to last
---     Bytes         every element of it is a byte
+--     Key            the bytes of a key, first to last
+--     Bytes          every element of it is a byte
 --     compare_keys   byte order
---     Below         the first key stands below the second in it; `is_below` as a test
+--     Below          the first key stands below the second in it; `is_below` as a test
 --     same_key       two keys are one, as a test
---     PrefixOf      the second key begins with the first; `begins_with` as a test
---     extends       it begins with it and is longer
+--     PrefixOf       the second key begins with the first; `begins_with` as a test
+--     extends        it begins with it and is longer
 --     common_prefix  the longest common prefix of two keys
 --     last_byte      the last byte, 0 of the empty key
 -- Assumes nothing.

@@ -5,7 +5,7 @@
 --     Proper        the keys are nonempty and of bytes, the values of 32 bits
 --     Catalogue     both; a pool or an image holds it if its distinct prefixes are at most `most_records` besides
 --     insert        the map with a key's value set, whether it was there or not
---     insert_all     the same for entries in turn: of one key the last value stays
+--     insert_all    the same for entries in turn: of one key the last value stays
 --     lookup        the value of a key
 -- Assumes nothing.
 use Rattle.std.specs.Prelude.{ℕ, ◌<◌, ◌≡◌, List, [], ◌∷◌}

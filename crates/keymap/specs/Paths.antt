@@ -1,7 +1,7 @@
 -- The nodes of a map's image by their numbers (01, "The image"): "Nodes are numbered from 1 (root) in that order".
 --
---     nodes         the root, then the prefixes in breadth-first order: node k stands at index k - 1
---     IsNode        k is the number of a node; `is_node` as a test
+--     nodes          the root, then the prefixes in breadth-first order: node k stands at index k - 1
+--     IsNode         k is the number of a node; `is_node` as a test
 --     path_of        the path of node k
 --     node_of        the number of the node at a path
 --     is_path        a path is a node's

@@ -4,7 +4,7 @@
 --     level         the distinct prefixes of one length, rising
 --     prefixes      all of them, in breadth-first order
 --     Earlier       that order: the shorter first, and rising among those of a length
---     prefixes_of    the nonempty prefixes of one key
+--     prefixes_of   the nonempty prefixes of one key
 --     missing       how many of those no key of a map begins with
 -- Assumes nothing.
 use Rattle.std.specs.Prelude.{◌≡◌, ◌⊎◌, ℕ, zero, suc, ◌<◌, max, cond, not, List, [], ◌∷◌, ◌++◌, map, length, take, leb}

@@ -1,13 +1,13 @@
--- What 01 asks of a map (modules 5 and 6; goto of module 7 is `common_of_all` of `longer`). Any engine that answers from
--- a map is held to these; the exact match is `lookup`.
+-- What 01 asks of a map (modules 5 and 6; goto of module 7 is `common_of_all` of `longer`). Any engine that answers
+-- from a map is held to these; the exact match is `lookup`.
 --
---     beginning        the predictive listing of a query: the keys that begin with it
---     longer           its postfix listing: those that are longer besides
+--     beginning          the predictive listing of a query: the keys that begin with it
+--     longer             its postfix listing: those that are longer besides
 --     is_prefix_in       some key begins with the query and is longer
 --     common_of_all      the longest common prefix of all keys of a map
 --     longest_prefix_in  that of the keys that begin with the query, unless there are none or it is empty
 --     common_prefix_in   the shortest key that is a prefix of the query and longer than a length already seen
---     least_above       the least key above another: what the next step of a listing gives
+--     least_above        the least key above another: what the next step of a listing gives
 --
 -- The claims `LongestCommon`, `ShortestWithin` and `NextAfter` are 01's words for the last four: their laws say which
 -- answer is claimed, and when there is none.

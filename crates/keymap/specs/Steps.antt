@@ -3,8 +3,8 @@
 --
 --     NextIn        the least of some paths above a path
 --     LastIn        none of them is above it
---     paths_below    the paths of the nodes below a top, its own among them
---     nodes_above    how many nodes' paths are above a path
+--     paths_below   the paths of the nodes below a top, its own among them
+--     nodes_above   how many nodes' paths are above a path
 --     upper         a path without its last byte: its parent's
 -- Assumes nothing.
 use Rattle.std.specs.Prelude.{ℕ, List, [], ◌∷◌, length}

@@ -2,7 +2,7 @@
 -- itself".
 -- Every reader and every writer of numbers cites these.
 --
---     decimal       the digits of a number, as they are written
+--     decimal        the digits of a number, as they are written
 --     is_decimal     a text obeys the rule
 --     number_in      the number that a text spells, if it obeys the rule
 -- Assumes nothing.

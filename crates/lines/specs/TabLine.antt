@@ -1,7 +1,7 @@
 -- A line and its entry (01, module 8): "A line is key (no TAB or LF, maybe empty), one TAB, one decimal". A line that
 -- breaks this has none.
 --
---     tab_entry      the entry of a line
+--     tab_entry       the entry of a line
 --     tab_line_says   what `tab_line` answers: the key's length and the number, or the refusal
 --     tab_line_key    the part that `tab_line_key` hands back: the key, empty where the first call refuses
 -- Assumes nothing.

@@ -1,11 +1,11 @@
 -- The lines of a text (01, module 8): "Lines end at LF; the last LF may be absent, and an empty rest after the last LF
 -- is no line."
 --
---     lines_of       the lines, without their LF
---     entry_lines    those that are entries
---     entries_of     their entries, none for a line that breaks the rule
---     next_line_says  what `next_line` answers: where the line at a position ends and where the next one begins, or that
---                   there is none
+--     lines_of        the lines, without their LF
+--     entry_lines     those that are entries
+--     entries_of      their entries, none for a line that breaks the rule
+--     next_line_says  what `next_line` answers: where the line at a position ends and where the next one begins, or
+--                     that there is none
 -- Assumes nothing.
 use Rattle.std.specs.Prelude.{ℕ, suc, ◌+◌, min, cond, List, [], ◌∷◌, map, length, drop, eqb}
 use Rattle.std.proofs.Math.Option.{Option}

@@ -4,7 +4,7 @@
 --     tab_line       the line of an entry, without LF
 --     tab_text       the same with LF
 --     map_text       the text of entries, one after the other
---     Plain         an entry that a line can hold: no TAB or LF in its key, a value of 32 bits
+--     Plain          an entry that a line can hold: no TAB or LF in its key, a value of 32 bits
 --     write_line_says what `write_line` answers: the length, or the refusal
 --     write_line_out  what it leaves in the buffer: bytes past the line stay
 -- Assumes nothing.

@@ -5,7 +5,7 @@
 -- cursor."
 --
 --     set_of         the keys of a listing
---     belongs       "fresh at a top (a node from 1 to n+1), at a valued node of that top's set, or finished"
+--     belongs        "fresh at a top (a node from 1 to n+1), at a valued node of that top's set, or finished"
 --     start_says     the start of a listing
 --     next_in        the entry that the next step gives
 --     step_says      a step

@@ -44,4 +44,5 @@ unfoldable pub key_says : Image → Cursor → List ℕ → List ℕ
 key_says i c out = on_image i (on_cursor (image_map i) c (says_key (key_of (image_map i) c) out))
 
 unfoldable pub key_out : Image → Cursor → List ℕ → List ℕ
-key_out i c out = cond (image_test i) (cond (belongs (image_map i) c) (written_key (key_of (image_map i) c) out) out) out
+key_out i c out =
+    cond (image_test i) (cond (belongs (image_map i) c) (written_key (key_of (image_map i) c) out) out) out

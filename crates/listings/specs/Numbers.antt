@@ -3,9 +3,9 @@
 -- proofs/Laws/Numbers has that on an image that some map has they are what the map's definitions say.
 --
 --     in_set_by       a node is that of a key of a top's set
---     stands_by      the numbers of an open cursor belong
+--     stands_by       the numbers of an open cursor belong
 --     next_given_by   what the next step gives, as node and value
---     start_by       the cursor that a listing starts with
+--     start_by        the cursor that a listing starts with
 --     given_len_by    how long the key of a node is in a listing
 -- Assumes nothing.
 use Rattle.std.specs.Prelude.{ℕ, zero, suc, ◌-◌, ◌^◌, Bool, true, false, cond, ◌&&◌, List, length, eqb, ltb}

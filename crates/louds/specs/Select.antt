@@ -3,7 +3,7 @@
 -- Marks are a function from places to 0 or 1 that says 1 of the places that count: a sequence's ones mark themselves,
 -- and its zeros are marked by `gap`.
 --
---     kth           the k-th marked place below len
+--     kth            the k-th marked place below len
 --     one_at         the m-th one
 --     one_back       the k-th one before a place, counted down
 --     zero_at        the k-th zero

@@ -2,7 +2,7 @@
 -- it is where the sums are the word's own.
 --
 --     cleared      a word without its n lowest ones
---     ones_from     and without those before its j-th, by its ones up to the end of each byte
+--     ones_from    and without those before its j-th, by its ones up to the end of each byte
 -- Assumes nothing.
 use Rattle.std.specs.Prelude.{ℕ, zero, suc, ◌+◌, ◌-◌, ◌*◌, ◌/◌, ◌%◌, ◌^◌, bit_and}
 use Rattle.std.specs.Int.Count.{count_trailing_zeros}

@@ -1,8 +1,9 @@
 -- What the callers share that hold a place in a local and lend it: the rules of the calculus that they use beside `Held`'s, passed on, and the steps that each of them takes.
 --
---     lent_place     the reference to the place of a number that lies in a local
+--     lent_place    the reference to the place of a number that lies in a local
 --     lends-place   a local that holds a place is lent, for a lifetime that is made for the call
---     hears-last    a callee's answer and the last values of what it was lent: what its contract says of them, and that the answer is owned
+--     hears-last    a callee's answer and the last values of what it was lent: what its contract says of them, and that
+--                   the answer is owned
 --     place-back    the lifetime is ended, and the local holds the place where the callee left it
 -- Assumes `Logic`.
 use types.Logic.{Logic, sem}

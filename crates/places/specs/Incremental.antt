@@ -6,14 +6,14 @@
 -- `query` says it, or nothing more where there is no such child; of the others Ok says 0 and what it holds, Err 1 and
 -- what it holds.
 --
---     path_says      what a path is: some longer key begins with it, and it is a key
---     query_says     "Query moves or, with no such child, stays", and `query_moves`: where it leaves the place
+--     path_says     what a path is: some longer key begins with it, and it is a key
+--     query_says    "Query moves or, with no such child, stays", and `query_moves`: where it leaves the place
 --     walkable      how many labels of a query lead on from a path
---     follow_says    "`query_until` failing at index i answers Err(i) and has moved i labels; on the empty query Err(0),
+--     follow_says   "`query_until` failing at index i answers Err(i) and has moved i labels; on the empty query Err(0),
 --                   unmoved", and `follow_moves`
---     goto_says      "let K be the keys longer than p that begin with p. K empty: Ok(0). Else the place moves to the
---                   longest common prefix q of K,
---                   answering Ok of the distance if q is in K, else Err of it", and `goto_moves`
+--     goto_says     "let K be the keys longer than p that begin with p. K empty: Ok(0). Else the place moves to the
+--                   longest common prefix q of K, answering Ok of the distance if q is in K, else Err of it", and
+--                   `goto_moves`
 --     Promise       what a call over a lent place promises: its answer, and the place afterwards
 -- Assumes nothing.
 use Rattle.std.specs.Prelude.{◌≡◌, ℕ, zero, suc, ◌+◌, ◌-◌, Bool, true, false, cond, List, [], ◌∷◌, ◌++◌, length, take}
@@ -139,7 +139,8 @@ common_below m p = common_of_all (longer p m)
 
 -- how far it is from p, if there are such keys: Ok if it is one of them
 abbrev pub distance_says : Map → Key → Key → List ℕ
-distance_says m p q = cond (given (lookup q (longer p m))) (says_ok (length q - length p)) (says_err (length q - length p))
+distance_says m p q =
+    cond (given (lookup q (longer p m))) (says_ok (length q - length p)) (says_err (length q - length p))
 
 abbrev pub goto_in : Map → Key → List ℕ
 goto_in m p = cond (is_prefix_in p m) (distance_says m p (common_below m p)) (says_ok 0)

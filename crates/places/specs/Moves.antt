@@ -74,7 +74,8 @@ follow_stops j k = record { answer = followed.Err j; node = place_number k }
 -- there, with no label left; of the empty query no label led on
 abbrev pub follow_ends : Image → ℕ → ℕ → FollowMove
 follow_ends i j k =
-    cond (eqb j 0) (follow_stops 0 k) (record { answer = followed.Ok (answer_by i (stand_in i k)); node = place_number k })
+    cond (eqb j 0) (follow_stops 0 k)
+    (record { answer = followed.Ok (answer_by i (stand_in i k)); node = place_number k })
 
 -- on to a child if there is one, else the walk stops
 abbrev pub follow_to : Option ℕ → FollowMove → (ℕ → FollowMove) → FollowMove

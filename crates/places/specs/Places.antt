@@ -48,4 +48,5 @@ unfoldable pub prefix_says : Image → ℕ → List ℕ → List ℕ
 prefix_says i k out = on_place i k (says_written (path_of (image_map i) k) out)
 
 unfoldable pub prefix_out : Image → ℕ → List ℕ → List ℕ
-prefix_out i k out = cond (image_test i) (cond (is_node (image_map i) k) (written_to (path_of (image_map i) k) out) out) out
+prefix_out i k out =
+    cond (image_test i) (cond (is_node (image_map i) k) (written_to (path_of (image_map i) k) out) out) out

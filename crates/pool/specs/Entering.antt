@@ -2,7 +2,7 @@
 -- label order" (01).
 --
 --     entered         one record more
---     entered_all      a record for each byte, each below the one before; last_entered is the last
+--     entered_all     a record for each byte, each below the one before; last_entered is the last
 --     SoundBut        a pool that is sound but for a record that has neither value nor child yet
 --     CanEnter        what entering a record asks
 -- Assumes nothing.

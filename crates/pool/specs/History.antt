@@ -2,12 +2,12 @@
 -- the same by the map of the keys that were accepted since the last reset, each with its last value, and by the
 -- capacity.
 --
---     PoolCall              a reset, a push or a use count
+--     PoolCall                a reset, a push or a use count
 --     call_says, call_pool    what a call answers, and the pool that it leaves
 --     run_says, run_pool      the same of calls in turn
 --     map_says, call_map      what a call answers by the map, and the map that it leaves
---     map_run_says, map_run    the same of calls in turn
---     pushes_of              a push for each entry of a map
+--     map_run_says, map_run   the same of calls in turn
+--     pushes_of               a push for each entry of a map
 -- Assumes nothing.
 use Rattle.std.specs.Prelude.{ℕ, ◌<◌, cond, List, [], ◌∷◌, length, leb, eqb}
 use Rattle.keymap.specs.Limits.{value_limit}

@@ -1,10 +1,10 @@
 -- Push: what it answers, and what the pool then holds, word for word (01).
 --
---     inserted        the pool with the key's missing records entered, and the last record's value and mark set
+--     inserted         the pool with the key's missing records entered, and the last record's value and mark set
 --     tested_says      what push answers of a sound pool
 --     push_says        what it answers
 --     push_pool        what it leaves: a refusal leaves the pool as it was
---     TestedPush      what a push into a sound pool promises
+--     TestedPush       what a push into a sound pool promises
 -- Assumes nothing.
 use Rattle.std.specs.Prelude.{ℕ, ◌+◌, ◌≡◌, Bool, cond, List, [], ◌∷◌, length, drop, leb, ltb, eqb}
 use Rattle.keymap.specs.Key.{Key}

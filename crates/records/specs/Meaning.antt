@@ -4,7 +4,7 @@
 --     forest_below   what hangs below a record: its children with what hangs below them
 --     pool_forest    the forest that the records represent
 --     pool_map       the map
---     Holds         a key is in it with a value, read off the records
+--     Holds          a key is in it with a value, read off the records
 -- Assumes nothing.
 use Rattle.std.specs.Prelude.{ℕ, zero, suc, ◌≡◌, cond, eqb}
 use Rattle.std.proofs.Math.Option.{none, some}

@@ -3,7 +3,7 @@
 --     ChildBy       a record is the child of another with a label
 --     Spells        some bytes are the labels on the way from a record down to another
 --     Stops         the first of some bytes leads nowhere from a record
---     record_path    the labels on the way from the root down to a record, by climbing
+--     record_path   the labels on the way from the root down to a record, by climbing
 --     Climbs        a record reaches the root through parents in use
 -- Assumes nothing.
 use Rattle.std.specs.Prelude.{ℕ, zero, suc, ◌≡◌, cond, List, [], ◌∷◌, ◌++◌, eqb}

@@ -1,7 +1,7 @@
 -- The words of a pool (01, "The pool"): five to the record, record 0 the root. Words beyond the last whole record are
 -- surplus.
 --
---     word   of a record in use                 of the root
+--     word                                      of a record in use                 of the root
 --     0      label, plus 256 if it has a value  the number n of other records in use
 --     1      value, 0 if none                   0
 --     2      first child, 0 if none             first child, 0 if none
@@ -9,11 +9,11 @@
 --     4      parent                             0
 --
 --     word, put     a word of a record; the pool with another word there
---     last_record    the highest record that may be in use; records above it may hold anything
---     used_count     how many records are in use, the root left out
+--     last_record   the highest record that may be in use; records above it may hold anything
+--     used_count    how many records are in use, the root left out
 --     InUse         a record is in use
 --     Node          a record is the root or in use
---     next_record    the record that is taken next
+--     next_record   the record that is taken next
 --     taken         the pool with the root's words brought up to date: a record is taken
 --     Bounded       every word is of 32 bits
 --     capacity      how many records besides the root there may be

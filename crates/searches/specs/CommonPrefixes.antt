@@ -4,8 +4,9 @@
 -- itself.
 -- A seen length at or past the query's end gives no match."
 --
---     shortest_from    on any slices: the first node on the walk, past what was seen, that has a value, by R-7's rule
---     common_says, common_part    what the calls promise, of the map
+--     shortest_from             on any slices: the first node on the walk, past what was seen, that has a value, by
+--                               R-7's rule
+--     common_says, common_part  what the calls promise, of the map
 -- Assumes nothing.
 use Rattle.std.specs.Prelude.{ℕ, ◌+◌, cond, List, [], ◌∷◌, length, take, leb}
 use Rattle.std.proofs.Math.Option.{Option, none, some}

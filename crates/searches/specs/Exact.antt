@@ -2,9 +2,9 @@
 -- sets the value of a present key,
 -- which "answers the old value and writes that one entry; if absent, no match, nothing written"; and `is_prefix`.
 --
---     keyed_in       the node and the value of a key, on any slices by R-7's rule
---     goes_on        the node at a query has children, on any slices
---     exact_says, set_values, is_prefix_says    what the calls promise, of the map
+--     keyed_in                                the node and the value of a key, on any slices by R-7's rule
+--     goes_on                                 the node at a query has children, on any slices
+--     exact_says, set_values, is_prefix_says  what the calls promise, of the map
 -- Assumes nothing.
 use Rattle.std.specs.Prelude.{ℕ, ◌-◌, Bool, false, cond, List, length, set, ltb}
 use Rattle.std.proofs.Math.Option.{Option, none, some}

@@ -3,12 +3,12 @@
 -- and no public function asks anything of its caller. Here stands what 01 says of refusals: what is damaged is refused
 -- by its number, and "A refusal changes no lent memory".
 --
---     Damaged          each call on three slices that no map has
---     TooSmall         each call on a pool of fewer than 5 words
---     Unsound          each call on a pool that is not sound
---     SoundPool        each call on one that is
---     RefusalKeeps     a call that refuses leaves what it was lent as it was
---     EveryDamaged, EveryPool    any three slices, any pool
+--     Damaged                  each call on three slices that no map has
+--     TooSmall                 each call on a pool of fewer than 5 words
+--     Unsound                  each call on a pool that is not sound
+--     SoundPool                each call on one that is
+--     RefusalKeeps             a call that refuses leaves what it was lent as it was
+--     EveryDamaged, EveryPool  any three slices, any pool
 -- Assumes nothing.
 use Rattle.std.specs.Prelude.{ℕ, ◌+◌, ◌≤◌, ◌<◌, ◌≡◌, false, cond, List, [], ◌∷◌, length, leb}
 use Rattle.keymap.specs.Key.{Key}
@@ -80,7 +80,8 @@ pub record SoundPool (p : Pool) : Type 0 where
   pub use-count : use_count_says p ≡ 0 ∷ used_count p ∷ []
   pub push-empty : push_says p [] ≡ refuses Refusal.EmptyKey
   pub push : (k : Key) → ¬ (k ≡ [])
-      → push_says p k ≡ cond (leb (used_count p + missing k (pool_map p)) (capacity p)) (0 ∷ []) (refuses Refusal.NoRoom)
+      → push_says p k
+      ≡ cond (leb (used_count p + missing k (pool_map p)) (capacity p)) (0 ∷ []) (refuses Refusal.NoRoom)
   pub build : (ls vs ws qs : List ℕ)
       → build_says p ls vs ws qs
       ≡ cond (buffers_fit (used_count p) (length ls) (length vs) (length ws) (length qs)) (0 ∷ used_count p ∷ [])

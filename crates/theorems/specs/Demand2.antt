@@ -5,7 +5,7 @@
 --
 --     AtPath           the calls on the place at a path of the map
 --     Searches         what each call answers on an image that stands for a map
---     set_all           a map, and an image, after calls that set values
+--     set_all          a map, and an image, after calls that set values
 --     EveryMap         each map that an image can hold, after any such calls
 --     EveryBuild       each image that is built after any history, after any such calls
 -- Assumes nothing.

@@ -57,7 +57,8 @@ pub record Demand3 (p : Pool) (cs : List Call) : Type 0 where
       ≡ fit_says (length (prefixes (map_after p cs))) (length ls) (length vs) (length ws) (length qs)
   -- an accepted build answers the number of these prefixes, and leaves the image of the map
   pub builds : (n : ℕ) (ls vs ws qs : List ℕ) → build_says (pool_after p cs) ls vs ws qs ≡ 0 ∷ n ∷ []
-      → (n ≡ length (prefixes (map_after p cs))) × (built_image n (pool_after p cs) ls vs ws qs ≡ image (map_after p cs))
+      → (n ≡ length (prefixes (map_after p cs)))
+      × (built_image n (pool_after p cs) ls vs ws qs ≡ image (map_after p cs))
   -- of the scratch slice "entry j of it ends holding the record number of node j+2"
   pub scratch : (n : ℕ) (ls vs ws qs : List ℕ) → build_says (pool_after p cs) ls vs ws qs ≡ 0 ∷ n ∷ [] → (j : ℕ) → j < n
       → InUse (pool_after p cs) (get_or (build_scratch (pool_after p cs) ls vs ws qs) j 0)

@@ -1,12 +1,12 @@
 -- Catalogue lines (01, module 8): when a line is refused 9 and what is read of any other, what is written of an entry,
 -- and which lines a text has.
 --
---     EveryNumber      a text that obeys the rule of numbers is the decimal of the number that it stands for, and the
---                      other way round
---     LineCases        a line that obeys the rule, and one that does not
---     WrittenLine      an entry that is written to a buffer
---     EveryLine, EveryWrite, EveryCut    any bytes, any entry and buffer, any position in any text
---     ReadBack         the text of entries is read as these entries
+--     EveryNumber                      a text that obeys the rule of numbers is the decimal of the number that it
+--                                      stands for, and the other way round
+--     LineCases                        a line that obeys the rule, and one that does not
+--     WrittenLine                      an entry that is written to a buffer
+--     EveryLine, EveryWrite, EveryCut  any bytes, any entry and buffer, any position in any text
+--     ReadBack                         the text of entries is read as these entries
 -- Assumes nothing.
 use Rattle.std.specs.Prelude.{ℕ, ◌-◌, ◌≤◌, ◌<◌, ◌≡◌, true, ◌↔◌, List, [], ◌∷◌, ◌++◌, map, length, take, drop}
 use Rattle.std.proofs.Math.Option.{some}

@@ -31,7 +31,8 @@ pub record NotReset (p : Pool) : Type 0 where
   -- and what is built after them is searched by the map that the calls leave of it
   pub searches : (cs : List Call) → AllLent (pool_calls cs) → (n : ℕ) (ls vs ws qs : List ℕ)
       → build_says (run_pool p (pool_calls cs)) ls vs ws qs ≡ 0 ∷ n ∷ []
-      → Demand2 (map_run (capacity p) (pool_map p) (pool_calls cs)) (built_image n (run_pool p (pool_calls cs)) ls vs ws qs)
+      → Demand2 (map_run (capacity p) (pool_map p) (pool_calls cs))
+      (built_image n (run_pool p (pool_calls cs)) ls vs ws qs)
 
 -- the words of a lent pool are of 32 bits
 abbrev pub EverySound : Type 0

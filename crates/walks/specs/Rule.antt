@@ -1,12 +1,12 @@
 -- R-7's rule (02, "One lookup without reading the catalogue"): a walk down a query, on any bits and any entries.
 -- ls are the label entries, n of them; b the bits, of which the first len are read.
 --
---     is_node_of      a number is a node's
---     counts        a child counts, and `counts_to`: by the number of the last node
---     matches       an entry matches a label
+--     is_node_of     a number is a node's
+--     counts         a child counts, and `counts_to`: by the number of the last node
+--     matches        an entry matches a label
 --     child_by       the child of a node with a label
---     walked        the node at the end of a query, walked from node 1
---     value_of_node   the value of a node
+--     walked         the node at the end of a query, walked from node 1
+--     value_of_node  the value of a node
 --     node_by        the node at the end of a query, in the first 2n+3 bits of an image, and `found_by`: its value
 -- Assumes nothing.
 use Rattle.std.specs.Prelude.{ℕ, zero, suc, ◌+◌, ◌-◌, ◌*◌, Bool, cond, ◌&&◌, List, [], ◌∷◌, length, get_or, eqb, ltb, leb}
@@ -70,7 +70,8 @@ abbrev pub value_by : ℕ → ℕ → Option ℕ
 value_by e v = cond (leb mark e && ltb e (2 * mark)) (some v) none
 
 unfoldable pub value_of_node : List ℕ → List ℕ → ℕ → Option ℕ
-value_of_node ls vs m = cond (leb 2 m && ltb (m - 2) (length vs)) (value_by (get_or ls (m - 2) 0) (get_or vs (m - 2) 0)) none
+value_of_node ls vs m =
+    cond (leb 2 m && ltb (m - 2) (length vs)) (value_by (get_or ls (m - 2) 0) (get_or vs (m - 2) 0)) none
 
 abbrev pub value_at_end : List ℕ → List ℕ → Option ℕ → Option ℕ
 value_at_end ls vs none = none

@@ -5,8 +5,10 @@
 --     line_refused                     a refused line leaves the pool as it was
 --     fill_end, fill-goes, fill_stops  the equations of `fill_from` and `left_from`, by what one line says
 --     fill-means                       lines accepted whole leave a sound pool that holds the inserts of their entries
---     filled-holds                     a text accepted whole after a reset leaves a sound pool that holds the map of its entries
---     lines-bytes, key-bytes           the lines of bytes are of bytes, and so are their keys; `bytes_of`: each element below the limit
+--     filled-holds                     a text accepted whole after a reset leaves a sound pool that holds the map of
+--                                      its entries
+--     lines-bytes, key-bytes           the lines of bytes are of bytes, and so are their keys; `bytes_of`: each element
+--                                      below the limit
 -- Assumes nothing.
 use mathlib.Core.Path.{◌≡◌, refl, sym, ap, ◌∙◌}
 use Prim.Native.Nat.{ℕ, suc, ◌≤◌, ◌<◌}

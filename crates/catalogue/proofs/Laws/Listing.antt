@@ -1,9 +1,10 @@
 -- A listing put into a buffer, entry by entry: what stands before the place to go on from, and the text of the rest, are together the text of the map.
 --
---     start-told                  no start on a map's image is refused
---     Listed, listing-starts      before the first step; `listing-within`: the place is inside the buffer
---     Turn, listing-turn          a step that gave an entry: its key and what stands behind the key have room, and with them put the listing stands behind it
---     listing-ends                a step that gave none: the text of the map is put
+--     start-told              no start on a map's image is refused
+--     Listed, listing-starts  before the first step; `listing-within`: the place is inside the buffer
+--     Turn, listing-turn      a step that gave an entry: its key and what stands behind the key have room, and with
+--                             them put the listing stands behind it
+--     listing-ends            a step that gave none: the text of the map is put
 -- Assumes nothing.
 use mathlib.Core.Path.{◌≡◌, refl, sym, ap, subst, ◌∙◌}
 use mathlib.Core.Logic.{inl}

@@ -1,10 +1,11 @@
 -- Laws of what a listing gives next, and of the rest. The next entry is the first of the rest, and behind it stand the others.
 --
---     next_entry, cursor_after     the entry that a cursor gives next, and the cursor behind it; `rest_of`: the entries still to be given
---     next-head                  the next entry is the first of the rest
---     next-member                it is one of the map
---     next-belongs, next-key     the cursor behind it belongs, and in a predictive listing its key is the entry's
---     rest-step                  a step takes it from the rest
+--     next_entry, cursor_after  the entry that a cursor gives next, and the cursor behind it; `rest_of`: the entries
+--                               still to be given
+--     next-head                 the next entry is the first of the rest
+--     next-member               it is one of the map
+--     next-belongs, next-key    the cursor behind it belongs, and in a predictive listing its key is the entry's
+--     rest-step                 a step takes it from the rest
 -- Assumes nothing.
 use mathlib.Core.Path.{◌≡◌, refl, sym, ap, subst, ◌∙◌}
 use Prim.Native.Nat.{ℕ, zero, suc}

@@ -1,11 +1,15 @@
 -- Laws of what a text is answered. A sound pool's words answer what its map tells of the text, so every answer, 0 among them, is told by the text alone.
 --
---     text-goes, text-stops          a line is pushed, and goes on with the map that has its entry; or it is 9, 3 or 4 with its number, each for its one cause
---     text-behind, text-refuses      lines behind lines that are all pushed go on with their number and their map, and the first that has a cause is the answer
---     Stopped, text-answers          there is no other answer: 0, or the first refusal behind lines that are all pushed
---     text-accepts, text-accepted    0 is answered exactly when every line is an entry of a nonempty key, and all prefixes are at most the capacity
---     Told, text-told, text-whole    the same of a text of any length, so that 1 and 2 never come; `text-long`, `text-short`: a text by its length
---     fill-text, reset-text          what a sound pool answers of lines, and a pool that is reset of a text
+--     text-goes, text-stops        a line is pushed, and goes on with the map that has its entry; or it is 9, 3 or 4
+--                                  with its number, each for its one cause
+--     text-behind, text-refuses    lines behind lines that are all pushed go on with their number and their map, and
+--                                  the first that has a cause is the answer
+--     Stopped, text-answers        there is no other answer: 0, or the first refusal behind lines that are all pushed
+--     text-accepts, text-accepted  0 is answered exactly when every line is an entry of a nonempty key, and all
+--                                  prefixes are at most the capacity
+--     Told, text-told, text-whole  the same of a text of any length, so that 1 and 2 never come; `text-long`,
+--                                  `text-short`: a text by its length
+--     fill-text, reset-text        what a sound pool answers of lines, and a pool that is reset of a text
 -- Assumes nothing.
 use mathlib.Core.Path.{◌≡◌, refl, sym, ap, ◌∙◌}
 use mathlib.Core.Logic.{◌↔◌, ◌⊎◌, inl, inr}

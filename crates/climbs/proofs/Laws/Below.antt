@@ -1,7 +1,7 @@
 -- Whether a node is a top or below it. On an image that some map has it says whether the node's path begins with the top's.
 --
---     below_by-here, -lost, -up    a node, by its number and its parent
---     below-path                  on an image that some map has, by paths
+--     below_by-here, -lost, -up  a node, by its number and its parent
+--     below-path                 on an image that some map has, by paths
 -- Assumes nothing.
 use mathlib.Core.Path.{◌≡◌, refl, sym, ap, subst, ◌∙◌}
 use Prim.Native.Nat.{ℕ, zero, suc, ◌≤◌, ◌<◌}

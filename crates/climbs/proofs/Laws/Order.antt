@@ -1,10 +1,11 @@
 -- The steps in byte order by their cases, on any bits.
 --
---     one_behind-far, -inside, -told       a one right behind a place
---     first-lost, first-at                the first child, by the node's zero; `first_run`: by the node's run
---     beside-lost, beside_at              the next sibling, by the node's one
---     climbed-top, climbed-on             a climb, by whether it is at the top
---     next-starts                         a search, and `sought-done`, `-lost`, `-value`, `-on`: by what is left and where it is
+--     one_behind-far, -inside, -told  a one right behind a place
+--     first-lost, first-at            the first child, by the node's zero; `first_run`: by the node's run
+--     beside-lost, beside_at          the next sibling, by the node's one
+--     climbed-top, climbed-on         a climb, by whether it is at the top
+--     next-starts                     a search, and `sought-done`, `-lost`, `-value`, `-on`: by what is left and where
+--                                     it is
 -- Assumes nothing.
 use mathlib.Core.Path.{◌≡◌, refl, sym, ap, ap₂, ◌∙◌}
 use Prim.Native.Nat.{ℕ, zero, suc, ◌+◌, ◌-◌, ◌≤◌, ◌<◌}

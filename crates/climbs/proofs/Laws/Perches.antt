@@ -1,12 +1,12 @@
 -- A perch that knows its one goes where the rule goes, on any bits; and a climb ends, since each parent's number is below.
 --
---     has_parent-far, -zero, -before, -last    a perch, by the first test that fails; `has_parent-told`: what it tells
---     parent_from-none, -some                  the parent of a perch, by that test
---     parent_by-told                           a parent's number is from 1 to the node's less 1
---     perch-lost, perch-up                    a perch by its parent's number, as louds answers it
---     parent-rule                             the parent of a perch is the rule's
---     depth-root, depth-next                  how deep a node is, by its parent
---     rise-to, rise-lost                      what a step up from a perch that knows its one tells
+--     has_parent-far, -zero, -before, -last  a perch, by the first test that fails; `has_parent-told`: what it tells
+--     parent_from-none, -some                the parent of a perch, by that test
+--     parent_by-told                         a parent's number is from 1 to the node's less 1
+--     perch-lost, perch-up                   a perch by its parent's number, as louds answers it
+--     parent-rule                            the parent of a perch is the rule's
+--     depth-root, depth-next                 how deep a node is, by its parent
+--     rise-to, rise-lost                     what a step up from a perch that knows its one tells
 -- Assumes nothing.
 use mathlib.Core.Path.{◌≡◌, refl, sym, ap, ◌∙◌}
 use Prim.Native.Nat.{ℕ, zero, suc, ◌+◌, ◌-◌, ◌≤◌, ◌<◌}

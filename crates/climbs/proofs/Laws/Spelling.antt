@@ -1,12 +1,13 @@
 -- The labels on the way up from a node, in a buffer. On an image that some map has they are the bytes of the node's path: a node but the root has its last byte
 -- for its label, and its parent the bytes before, so the labels met on the way are the bytes from the last to the first.
 --
---     has_entry-low, -upto, -told                       the test of an entry
---     spelled_from-done, -lost, -bare, -next            the climb, by what is left and where it is
---     spelled_by-short, spelled_by-room                  the buffer, by its room
---     spell-path                                       on an image that some map has, the last bytes of the path
---     spelled-all                                      all bytes of a path, and `last_bytes-behind`: those behind a path that it begins with
---     said_spelled-one                                  answers that tell the same numbers are the same
+--     has_entry-low, -upto, -told             the test of an entry
+--     spelled_from-done, -lost, -bare, -next  the climb, by what is left and where it is
+--     spelled_by-short, spelled_by-room       the buffer, by its room
+--     spell-path                              on an image that some map has, the last bytes of the path
+--     spelled-all                             all bytes of a path, and `last_bytes-behind`: those behind a path that it
+--                                             begins with
+--     said_spelled-one                        answers that tell the same numbers are the same
 -- Assumes nothing.
 use mathlib.Core.Path.{◌≡◌, refl, sym, ap, ap₂, subst, ◌∙◌}
 use Prim.Native.Nat.{ℕ, zero, suc, ◌+◌, ◌-◌, ◌≤◌, ◌<◌}

@@ -1,10 +1,11 @@
 -- The image test by its cases: each test that fails makes the whole false, and the last case is the one that is left.
 --
---     labels_rise-is             two labels
---     childless_fits-root, ..    a node without child
---     bit_fits-one, ..           a bit, by itself and the one before
---     lengths_fit-many, -values, -words    the test of the lengths, by the first that fails; `lengths-told`, `lengths-fit`: what it tells, and back
---     image_test-unfit, ..       the whole, by the first test that fails
+--     labels_rise-is                     two labels
+--     childless_fits-root, ..            a node without child
+--     bit_fits-one, ..                   a bit, by itself and the one before
+--     lengths_fit-many, -values, -words  the test of the lengths, by the first that fails; `lengths-told`,
+--                                        `lengths-fit`: what it tells, and back
+--     image_test-unfit, ..               the whole, by the first test that fails
 -- Assumes nothing.
 use mathlib.Core.Path.{◌≡◌, refl, sym, ◌∙◌}
 use Prim.Native.Nat.{ℕ, ◌+◌, ◌-◌, ◌*◌, ◌/◌, ◌%◌, ◌^◌, ◌≤◌, ◌<◌}

@@ -1,10 +1,10 @@
 -- What the tests of a bit ask, by their parts: each is true exactly if all that it asks holds.
 --
 --     both                        of two tests that are true together each is true
---     entry_fits-told, -made       an entry
+--     entry_fits-told, -made      an entry
 --     OneFits                     what is asked of a one's node
---     one_fits-told, -made         the test of a one asks it
---     childless_fits-told, -made   a node without child
+--     one_fits-told, -made        the test of a one asks it
+--     childless_fits-told, -made  a node without child
 -- Assumes nothing.
 use mathlib.Core.Path.{◌≡◌, refl}
 use Prim.Native.Nat.{ℕ, ◌+◌, ◌-◌, ◌*◌, ◌≤◌, ◌<◌}

@@ -1,13 +1,13 @@
 -- Laws of build: which buffers fit, what it says in each case, and what it then leaves: a refusal leaves every buffer as it was.
 --
---     fit-labels, ..       the case that each test of the lengths settles
---     fit_all              what fitting buffers are
---     says-small, ..       what build says in each case
---     build-refused        a refusal leaves all four
---     build-done           what else is left of them
---     says-sound           what build says of a sound pool, by the lengths alone
---     tell-levels, told-labels, told-values    the entries are those of the level order
---     said-built-one       equal numbers mean equal answers
+--     fit-labels, ..                         the case that each test of the lengths settles
+--     fit_all                                what fitting buffers are
+--     says-small, ..                         what build says in each case
+--     build-refused                          a refusal leaves all four
+--     build-done                             what else is left of them
+--     says-sound                             what build says of a sound pool, by the lengths alone
+--     tell-levels, told-labels, told-values  the entries are those of the level order
+--     said-built-one                         equal numbers mean equal answers
 -- Assumes nothing.
 use Prim.Native.Nat.{ℕ, ◌^◌, ◌≤◌, ◌<◌}
 use mathlib.Core.Path.{◌≡◌, refl, sym, ap, ◌∙◌, subst}

@@ -1,11 +1,11 @@
 -- Words filled with bits from the front: setting the bit right behind those held adds a one, and leaving it be adds a zero, because every bit beyond those held is 0.
 -- When the bits fill all the words, these are the pack of the bits.
 --
---     HoldsBits         the words' bits are these, and 0 beyond them
---     held_none         words of zeros hold no bit yet
---     held_one, held-zero, held-run    one bit more, or a run of ones
---     held-pack         words that the bits fill are their pack
---     sequence-more     the level-order sequence of one degree more
+--     HoldsBits                      the words' bits are these, and 0 beyond them
+--     held_none                      words of zeros hold no bit yet
+--     held_one, held-zero, held-run  one bit more, or a run of ones
+--     held-pack                      words that the bits fill are their pack
+--     sequence-more                  the level-order sequence of one degree more
 -- Assumes nothing.
 use Prim.Native.Nat.{ℕ, zero, suc, ◌+◌, ◌*◌, ◌/◌, ◌%◌, ◌^◌, ◌≤◌, ◌<◌}
 use mathlib.Core.Path.{◌≡◌, refl, sym, ap, ◌∙◌}

@@ -1,8 +1,8 @@
 -- Laws of histories with builds. What a build says and writes is told by the map that the pool holds, and that map is told by the other calls.
 --
 --     build-says          what a build of a sound pool says, by the map
---     history-says            any calls on a sound pool answer what the map tells
---     reset-history-says      so do any calls after an accepted reset, by the keys accepted since the last reset
+--     history-says        any calls on a sound pool answer what the map tells
+--     reset-history-says  so do any calls after an accepted reset, by the keys accepted since the last reset
 --     reset-run-build     an accepted build after any such calls writes the image of the map of those keys
 -- Assumes nothing.
 use Prim.Native.Nat.{ℕ, ◌≤◌}

@@ -1,18 +1,18 @@
 -- The queue over a sound pool's records. A record stands in one chain only, that of its parent, so what is taken and what waits names no record twice; every
 -- record is reached from the root, so none is left out. Hence the level order Q has each record in use once, and Q = the children of the root and of each of Q in turn.
 --
---     child-records, child-chain    the children of a record are its chain
---     child-only        and have it for their parent
---     level-count       the level order is as long as records are in use
---     level-law         it is the children of the root and of each of it in turn
---     level_all         every record in use is in it
---     node_at           what is taken is the root or in use
---     queued            what has been put into the queue when k are taken
---     queued-front      it is a leading part of the level order
---     queued-next       the children of the next one come behind it
---     queued-ahead      the queue is never empty before its end
---     queued-node       so what is taken from it is the next of the level order
---     queued-all        in the end it is the level order
+--     child-records, child-chain  the children of a record are its chain
+--     child-only                  and have it for their parent
+--     level-count                 the level order is as long as records are in use
+--     level-law                   it is the children of the root and of each of it in turn
+--     level_all                   every record in use is in it
+--     node_at                     what is taken is the root or in use
+--     queued                      what has been put into the queue when k are taken
+--     queued-front                it is a leading part of the level order
+--     queued-next                 the children of the next one come behind it
+--     queued-ahead                the queue is never empty before its end
+--     queued-node                 so what is taken from it is the next of the level order
+--     queued-all                  in the end it is the level order
 -- Assumes nothing.
 use Prim.Native.Nat.{ℕ, zero, suc, ◌+◌, ◌≤◌, ◌<◌}
 use mathlib.Core.Path.{◌≡◌, refl, sym, ap, ap₂, ◌∙◌, subst}

@@ -1,8 +1,10 @@
 -- The level order of a sound pool's records, in paths: "entry j of it ends holding the record number of node j+2" (01). Records and prefixes are both made by one rule, the
 -- children of the root and of each in turn, and a rule that is always ahead of what it has used makes one list only.
 --
---     level-paths      the paths of the records in level order are the prefixes of the pool's map, in breadth-first order
---     scratch-node     so what an accepted build leaves at entry j of the scratch slice is the record in use that has the path of node j + 2
+--     level-paths      the paths of the records in level order are the prefixes of the pool's map, in breadth-first
+--                      order
+--     scratch-node     so what an accepted build leaves at entry j of the scratch slice is the record in use that has
+--                      the path of node j + 2
 -- Assumes nothing.
 use Prim.Native.Nat.{ℕ, zero, suc, ◌+◌, ◌≤◌, ◌<◌}
 use mathlib.Core.Path.{◌≡◌, refl, sym, ap, ap₂, ◌∙◌, subst}

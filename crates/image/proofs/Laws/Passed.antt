@@ -1,12 +1,12 @@
 -- The test is true exactly of an accepted image. Its pass asks of each bit but the first two what the conditions ask of the node that the bit tells of:
 -- a one is a node with its parent, its entry and its sibling before, and a zero after a zero is a node without child.
 --
---     passes-told, passes-made    the pass asks it of each bit, and counts the ones
---     Passed                      all that it asks; it gives the conditions (`passed-..`)
---     accepted-each               the conditions give what it asks
---     test-accepted               an image of which the test is true is accepted
---     accepted-test               of an accepted image the test is true
---     image_test-iff               both
+--     passes-told, passes-made  the pass asks it of each bit, and counts the ones
+--     Passed                    all that it asks; it gives the conditions (`passed-..`)
+--     accepted-each             the conditions give what it asks
+--     test-accepted             an image of which the test is true is accepted
+--     accepted-test             of an accepted image the test is true
+--     image_test-iff            both
 -- Assumes nothing.
 use mathlib.Core.Path.{◌≡◌, refl, sym, ap, ◌∙◌, subst}
 use mathlib.Core.Logic.{◌↔◌, ⊎_elim}

@@ -1,13 +1,14 @@
 -- What is written is the image of the pool's map. The queue over the records and the queue over the forest that hangs below them go in step: what is taken is the same node
 -- and what is put behind are the same children. So the rows are those of the forest, whatever the records' numbers are, and the image is the map's.
 --
---     Hangs            a forest's siblings are some records, and so on below each
---     hangs-pool       the pool's forest hangs below the root
---     rows-level       the rows of the level order are the forest's
---     image-pool       labels, values and words are those of the image of the pool's map
---     image-of-map, image-back    so they are accepted, and stand for that map
---     image-same       two sound pools that hold the same map give the same image
---     build-means-image    so an accepted build of a sound pool writes the image of its map over the front of its buffers
+--     Hangs                     a forest's siblings are some records, and so on below each
+--     hangs-pool                the pool's forest hangs below the root
+--     rows-level                the rows of the level order are the forest's
+--     image-pool                labels, values and words are those of the image of the pool's map
+--     image-of-map, image-back  so they are accepted, and stand for that map
+--     image-same                two sound pools that hold the same map give the same image
+--     build-means-image         so an accepted build of a sound pool writes the image of its map over the front of its
+--                               buffers
 -- Assumes nothing.
 use Prim.Native.Nat.{ℕ, zero, suc, ◌+◌, ◌≤◌}
 use mathlib.Core.Path.{◌≡◌, refl, sym, ap, ap₂, ◌∙◌, subst}

@@ -1,11 +1,11 @@
 -- The turns of the loop that takes the nodes: after k of them the queue's front is what they put into it, and the words hold the bits of their degrees.
 -- A node's children go behind that front, its ones and its zero behind those bits.
 --
---     Turn          what holds when k are taken
---     turn-first    it holds at the start
---     turn-room, turn-place, turn-asks    what the next one's children ask for is there
---     turn-next     it holds of one more
---     turn-queue, turn-words    what it says when all are taken
+--     Turn                              what holds when k are taken
+--     turn-first                        it holds at the start
+--     turn-room, turn-place, turn-asks  what the next one's children ask for is there
+--     turn-next                         it holds of one more
+--     turn-queue, turn-words            what it says when all are taken
 -- Assumes nothing.
 use Prim.Native.Nat.{ℕ, ◌+◌, ◌^◌, ◌≤◌, ◌<◌}
 use mathlib.Core.Path.{◌≡◌, refl, sym, ap, ◌∙◌}

@@ -3,10 +3,10 @@
 --
 --     zeros_of-part, -whole   the zeros, by how much of the word is left
 --     word_fits-parents, ..   a word, by the first test that fails
---     Place                  what is asked at a place of the sequence
---     word-told, word_made   a word asks it of each of its places
+--     Place                   what is asked at a place of the sequence
+--     word-told, word_made    a word asks it of each of its places
 --     at-inside, word-inside what a word's tests read is there
---     last_before-first, ..   the word before, by the place
+--     last_before-first, ..  the word before, by the place
 --     count-stop             the pass counts the ones
 --     entries-stop           and looks at each entry
 --     words-pass             and at the words

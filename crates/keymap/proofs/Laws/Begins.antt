@@ -8,8 +8,8 @@
 --     prefix-rises         and stands below it exactly if it is shorter
 --     prefix-below         a key stands below all others that begin with it
 --     extends-iff          to extend q is to begin with it and to be longer; `extends-own`: no key extends itself
---     common_prefix-iff     the prefixes of the common prefix are those that both keys have
---     compare_keys-append   behind a common beginning the rests decide
+--     common_prefix-iff    the prefixes of the common prefix are those that both keys have
+--     compare_keys-append  behind a common beginning the rests decide
 --     prefix-between       what stands between two keys that begin with q begins with it
 --
 -- Assumes nothing.

@@ -8,14 +8,14 @@
 --     bit-beyond      beyond the last word every bit is 0
 --     words-ext       words of one length with the same bits are the same
 --     length-table    how many f a table has
---     get_or-table      which
+--     get_or-table    which
 --     number_lt       d digits make a number below 2^d
 --     digit-number    its digits
 --     length-pack     how many words a pack has
 --     pack-lt         each below 2^64
 --     bit-pack        its bits are those that were packed
 --     length-unpack   how many bits
---     get_or-unpack     which
+--     get_or-unpack   which
 --     unpack-small    each at most 1
 --     unpack-pack     what was packed is read back
 --     pack-unpack     words whose unused bits are 0 are the pack of their first n bits

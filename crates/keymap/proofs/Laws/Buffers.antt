@@ -2,12 +2,12 @@
 --
 --     length_over          the length stays
 --     get_d_over, take-over what is read from the front
---     over_none            nothing written
---     over-over            what is written over as many again
---     over-set             one element more
---     over-sets            several
---     over-behind          a list written behind another
---     over_zeros, over-told    one 0 more, one element of a list more
+--     over_none              nothing written
+--     over-over              what is written over as many again
+--     over-set               one element more
+--     over-sets              several
+--     over-behind            a list written behind another
+--     over_zeros, over-told  one 0 more, one element of a list more
 -- Assumes nothing.
 use Prim.Native.Nat.{ℕ, suc, ◌+◌, ◌≤◌, ◌<◌}
 use mathlib.Core.Path.{◌≡◌, refl, sym, ap, ◌∙◌}

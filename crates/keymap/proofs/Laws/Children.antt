@@ -2,7 +2,8 @@
 -- On the trie the children of a path are the path with each label that hangs below it, and one floor is the children of the floor above it.
 --
 --     children_in-forest    the children of a path, on the trie
---     prefixes-children    the prefixes are the children of the root and of the prefixes, in turn; `forest-children` on the trie
+--     prefixes-children     the prefixes are the children of the root and of the prefixes, in turn; `forest-children`
+--                           on the trie
 -- Assumes nothing.
 use mathlib.Core.Path.{◌≡◌, refl, sym, ap, ap₂, ◌∙◌}
 use Prim.Native.Nat.{ℕ, zero, suc, ◌+◌, ◌<◌}

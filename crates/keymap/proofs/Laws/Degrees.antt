@@ -1,17 +1,17 @@
 -- Degrees in unary, and back. A run of ones and its zero spell one degree, so the degrees of a sequence are read off from the front;
 -- and the sequence of degrees ds is the unary sequence of 1 and ds, so what holds of `unary` holds of it.
 --
---     sequence-unary        the sequence is in unary, with a degree 1 before the others
---     unary-one             the ones of the first degree
---     unary-past            what stands behind them: a zero and the others in unary
---     unary-small           every element is at most 1
---     sequence-small        the same of the sequence
---     length-unary          a one for each child and a zero for each node
---     length-sequence       and two elements more
+--     sequence-unary         the sequence is in unary, with a degree 1 before the others
+--     unary-one              the ones of the first degree
+--     unary-past             what stands behind them: a zero and the others in unary
+--     unary-small            every element is at most 1
+--     sequence-small         the same of the sequence
+--     length-unary           a one for each child and a zero for each node
+--     length-sequence        and two elements more
 --     degrees_from-unary     the degrees are read back
 --     degrees_from-sequence  the same, with the 1 that comes before them all
 --     unary-degrees_from     bits that end in a zero are in unary what they spell
---     total-take            the sum of the first j degrees
+--     total-take             the sum of the first j degrees
 --
 -- Assumes nothing.
 use mathlib.Core.Path.{◌≡◌, refl, sym, ap, ap₂, ◌∙◌, subst}

@@ -3,9 +3,9 @@
 --     get_or-degrees      the degree of the node at an index
 --     get_or-labels       the label entry of an entry
 --     get_or-values       its value's word
---     label_in-entry     the label that is read from it
---     value_in-entry     the value
---     forest-told       the degrees and entries of a trie are told as `Told` asks
+--     label_in-entry      the label that is read from it
+--     value_in-entry      the value
+--     forest-told         the degrees and entries of a trie are told as `Told` asks
 -- Assumes nothing.
 use mathlib.Core.Path.{◌≡◌, refl, sym, ap, ap₂, ◌∙◌}
 use Prim.Native.Nat.{ℕ, zero, suc, ◌<◌}

@@ -1,7 +1,7 @@
 -- The trie as a forest: a look-up follows one path, so each law speaks of one branch at a time.
 --
 --     branch-alter-same, ..-other   what an alteration does to its own branch, and to others
---     value_at-grow-same, ..-other   a path's value after it was set, and any other path's
+--     value_at-grow-same, ..-other  a path's value after it was set, and any other path's
 --     grow-orderly                  growing keeps a tree orderly
 --     forest-ext, tree-ext          orderly tries with the same values at every path are equal
 --     size-grow                     growing adds as many nodes as the path misses

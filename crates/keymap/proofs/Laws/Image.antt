@@ -1,10 +1,10 @@
 -- An image gives its trie back, and so its map: two maps with one image are one. The rows of a trie and the degrees that its bits spell
 -- are the same numbers, and rows are rebuilt into the trie that they came from.
 --
---     length-image_bits, ..      how long the image is: n labels, n values, 2n + 3 bits
---     decode-forest_image        decoding the image of a trie gives the trie
---     image_map-image            decoding the image of a map gives the map
---     image-one                 equal images come only from equal maps
+--     length-image_bits, ..  how long the image is: n labels, n values, 2n + 3 bits
+--     decode-forest_image    decoding the image of a trie gives the trie
+--     image_map-image        decoding the image of a map gives the map
+--     image-one              equal images come only from equal maps
 -- Assumes nothing.
 use mathlib.Core.Path.{◌≡◌, refl, sym, ap, ◌∙◌}
 use mathlib.Core.Logic.{◌↔◌}

@@ -2,16 +2,17 @@
 -- behind those of the nodes before it, and a condition on each node of the queue is a condition on the trie.
 -- Node m of 2 or more is entry m - 2, its place in the queue; node 1 is the root.
 --
---     all_items          the root, then the queue: node m at index m - 1
---     item_degree        how many children the node at an index has
---     entry_item         the node that an entry tells of
+--     all_items         the root, then the queue: node m at index m - 1
+--     item_degree       how many children the node at an index has
+--     entry_item        the node that an entry tells of
 --     Siblings          the siblings of a forest are the entries from a number on
 --     siblings-kids     the children of an entry stand behind those of the nodes before it
 --     siblings-here     what the first of some siblings is
 --     siblings-next     the others
 --     children-beyond   children have higher numbers than their parent
 --     degrees-all       every node but the root is a child of one
---     nodes-orderly     a trie is orderly if at each node the labels of the children rise and there is a value or a child
+--     nodes-orderly     a trie is orderly if at each node the labels of the children rise and there is a value or a
+--                       child
 --     orderly-nodes     and so it is in an orderly one
 -- Assumes nothing.
 use mathlib.Core.Path.{◌≡◌, refl, sym, ap, ◌∙◌, subst}

@@ -1,8 +1,8 @@
 -- The order of bytes and of keys, by cases: one view to a comparison carries what it says either way round.
 --
---     order                how two numbers stand
+--     order                 how two numbers stand
 --     key_order             how two keys stand
---     below-byte           the lower byte stands first
+--     below-byte            the lower byte stands first
 --     compare_keys-refl     a key stands with itself
 --     compare_keys-trans    below what is below is below
 -- Assumes nothing.

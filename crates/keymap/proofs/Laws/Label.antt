@@ -2,8 +2,8 @@
 --
 --     label_in-label_entry    the label
 --     value_in-label_entry    the value, 0 too
---     label_entry-small      the number is below twice the mark
---     label_entry-back       and a number below twice the mark is that of its label and its value
+--     label_entry-small       the number is below twice the mark
+--     label_entry-back        and a number below twice the mark is that of its label and its value
 -- Assumes nothing.
 use mathlib.Core.Path.{◌≡◌, refl, sym}
 use Prim.Native.Nat.{ℕ, ◌*◌, ◌<◌, ◌≤◌}

@@ -4,10 +4,10 @@
 --     list_tree-rising       the listing rises
 --     list_tree-grow         growing is an insert
 --     tree_of-orderly        the tree of a map is orderly
---     list_tree-tree_of       a map to its tree and back
---     tree_of-list_tree       an orderly tree to its map and back
+--     list_tree-tree_of      a map to its tree and back
+--     tree_of-list_tree      an orderly tree to its map and back
 --     tree_of-insert         an insert is growing
---     list_forest-tree_of     a catalogue to its forest and back
+--     list_forest-tree_of    a catalogue to its forest and back
 -- Assumes nothing.
 use mathlib.Core.Path.{◌≡◌, refl, sym, ap, ◌∙◌}
 use Prim.Native.Nat.{ℕ, ◌<◌, compare, Ordering}

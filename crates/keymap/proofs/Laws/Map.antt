@@ -4,12 +4,13 @@
 --     lookup-insert-same    it has the value set, and `lookup-insert-other` the values of other keys
 --     insert_iff            the same of its entries
 --     insert_comm           different keys go in in either order
---     insert_all-last        of entries in turn the last is inserted last
---     insert_all-self        the entries of a rising map, inserted in turn into the empty map, are that map
+--     insert_all-last       of entries in turn the last is inserted last
+--     insert_all-self       the entries of a rising map, inserted in turn into the empty map, are that map
 --     insert-catalogue      an insert of a nonempty key keeps a catalogue
 --     map-ext               two maps with the same look-ups are one list, and `map-members` with the same entries
 --     rising-iff            each entry stands below all behind it
---     lookup-iff            a key has a value exactly if the two are an entry, and `lookup-none` no value if no entry has it
+--     lookup-iff            a key has a value exactly if the two are an entry, and `lookup-none` no value if no entry
+--                           has it
 --
 -- Assumes nothing.
 use mathlib.Core.Path.{◌≡◌, refl, sym, ap, ◌∙◌}

@@ -2,8 +2,8 @@
 -- that list is at least as long, since taking an element out of both leaves as much.
 --
 --     in_map           what a mapped list has
---     get_or-in          what stands at an index
---     ordered-get_or     elements stand as their indexes do
+--     get_or-in        what stands at an index
+--     ordered-get_or   elements stand as their indexes do
 --     ordered-one      two lists in one order that have the same elements are one list
 --     ordered-append   two ordered lists make one, if the first stands before the second
 --     distinct-same    two lists without repeats that have the same elements are equally long

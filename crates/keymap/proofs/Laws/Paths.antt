@@ -1,17 +1,18 @@
 -- Nodes by number and by path. No path comes twice, so the two are inverse; and the children of the node at an index stand together,
 -- behind those of the nodes before it, since the nodes but the root are the children of each node in turn.
 --
---     path_of-node_of, node_of-path_of   a node's path and number give each other
---     path_of-earlier                 nodes are numbered in breadth-first order, and `path_of-longer`: a longer path has a higher number
---     nodes-iff                      the paths of nodes are the root's and those with which some key begins
---     is_path-iff                     and the test says so
---     nodes-prefix                   the way to a node goes over nodes
---     path_of-child                   the paths of a node's children, by their numbers
---     children-room                  where they end
---     children_in-iff                 they are the paths one byte longer with which some key begins
---     children_in-some                there are some exactly if some longer key begins with the path
---     children_in-ordered             in rising order, which is that of their last bytes: `below-label`
---     labels-node, values-node       what the image says of a node
+--     path_of-node_of, node_of-path_of  a node's path and number give each other
+--     path_of-earlier                   nodes are numbered in breadth-first order, and `path_of-longer`: a longer path
+--                                       has a higher number
+--     nodes-iff                         the paths of nodes are the root's and those with which some key begins
+--     is_path-iff                       and the test says so
+--     nodes-prefix                      the way to a node goes over nodes
+--     path_of-child                     the paths of a node's children, by their numbers
+--     children-room                     where they end
+--     children_in-iff                   they are the paths one byte longer with which some key begins
+--     children_in-some                  there are some exactly if some longer key begins with the path
+--     children_in-ordered               in rising order, which is that of their last bytes: `below-label`
+--     labels-node, values-node          what the image says of a node
 -- Assumes nothing.
 use mathlib.Core.Path.{◌≡◌, refl, sym, ap, ◌∙◌}
 use mathlib.Core.Logic.{◌↔◌, ◌⊎◌, inl, inr, ⊎_elim}

@@ -5,7 +5,7 @@
 --     prefixes-iff         all levels together have the nonempty ones
 --     prefixes-empty       the empty map has none
 --     prefixes-ordered     they come in breadth-first order, so none comes twice: `prefixes-distinct`
---     prefixes_of-iff       the same of one key, whose prefixes are as many as its bytes: `prefixes_of-length`
+--     prefixes_of-iff      the same of one key, whose prefixes are as many as its bytes: `prefixes_of-length`
 --     prefixes-insert      an insert adds those that are missing
 --     missing-none         and none if some key begins with the key already
 --

@@ -1,17 +1,18 @@
 -- The queries of a rising map are what 01 says of them. A listing keeps the entries that pass a test, so it rises as the map does and its first entry is its least;
 -- prefixes of one query rise with their lengths, so there the first is the shortest.
 --
---     keep-iff, lookup-keep     what a test keeps of a list, and what is looked up in a map of which it keeps a part
---     keep_all, keep-drops      a test that all pass keeps the list; a sharper test that drops one keeps fewer
---     beginning-iff             the predictive listing has the entries whose keys begin with the query
---     longer-iff                the postfix listing has those that are longer besides
---     beginning-present         the first is the second with the query's own entry before it, and `beginning-absent` where it has none
---     is_prefix_in-iff            some key begins with the query and is longer
---     common_of_all-longest       the longest common prefix of a map that has a key
---     longest_prefix_in-some      which prefix is answered, and `longest_prefix_in-none` when none is
---     common_prefix_in-some       which key is answered, and `common_prefix_in-none` when none is
---     least_above-some           which key is answered, and `least_above-none` when none is
---     least_above-next           steps go through a listing from its head on, each entry once, and then end
+--     keep-iff, lookup-keep   what a test keeps of a list, and what is looked up in a map of which it keeps a part
+--     keep_all, keep-drops    a test that all pass keeps the list; a sharper test that drops one keeps fewer
+--     beginning-iff           the predictive listing has the entries whose keys begin with the query
+--     longer-iff              the postfix listing has those that are longer besides
+--     beginning-present       the first is the second with the query's own entry before it, and `beginning-absent`
+--                             where it has none
+--     is_prefix_in-iff        some key begins with the query and is longer
+--     common_of_all-longest   the longest common prefix of a map that has a key
+--     longest_prefix_in-some  which prefix is answered, and `longest_prefix_in-none` when none is
+--     common_prefix_in-some   which key is answered, and `common_prefix_in-none` when none is
+--     least_above-some        which key is answered, and `least_above-none` when none is
+--     least_above-next        steps go through a listing from its head on, each entry once, and then end
 --
 -- Assumes nothing.
 use mathlib.Core.Path.{◌≡◌, refl, sym, ap, ◌∙◌}

@@ -1,15 +1,17 @@
 -- The next node of a listing. Nodes in byte order go depth first: after x comes its first child; where it has none, the next sibling of the nearest of x
 -- and its ancestors that has one, since what begins with none of them stands below x or behind that sibling; and the climb ends at the top.
 --
---     next_in-index, last_in-index   of rising paths the next is the one behind, and the last has none
---     next_in-first, last_in-none    the first child is the next of a node's children
---     next-child, last-child       the first child is the next below any top above it; without children nothing is left below x
---     next-sibling, last-sibling   nothing is left below c: the next sibling of c is the next; without one nothing is left below its parent
---     least_above-valued            the next node has a value: the listing gives it
---     least_above-unvalued          it has none: the listing goes on from it
---     least_above-last              there is no next node: the listing ends
---     head-longer, least_above-longer   the postfix listing, by the predictive one
---     nodes_above-falls             above the next node are fewer
+--     next_in-index, last_in-index     of rising paths the next is the one behind, and the last has none
+--     next_in-first, last_in-none      the first child is the next of a node's children
+--     next-child, last-child           the first child is the next below any top above it; without children nothing is
+--                                      left below x
+--     next-sibling, last-sibling       nothing is left below c: the next sibling of c is the next; without one nothing
+--                                      is left below its parent
+--     least_above-valued               the next node has a value: the listing gives it
+--     least_above-unvalued             it has none: the listing goes on from it
+--     least_above-last                 there is no next node: the listing ends
+--     head-longer, least_above-longer  the postfix listing, by the predictive one
+--     nodes_above-falls                above the next node are fewer
 -- Assumes nothing.
 use mathlib.Core.Path.{◌≡◌, refl, sym, ap, subst, ◌∙◌}
 use mathlib.Core.Logic.{◌↔◌, ◌⊎◌, inl, inr}

@@ -6,7 +6,8 @@
 --     stretch-split         a text with a b is the stretch, b and the rest
 --     stretch-append        the stretch of a text without b, put before a b, is that text
 --     holds-stretch         the stretch has no b
---     holds-take            a leading part has a b exactly if it is longer than the stretch, and `holds-whole` the whole text
+--     holds-take            a leading part has a b exactly if it is longer than the stretch, and `holds-whole` the
+--                           whole text
 -- Assumes nothing.
 use mathlib.Core.Path.{◌≡◌, refl, sym, ap, ◌∙◌}
 use Prim.Native.Nat.{ℕ, zero, suc, ◌+◌, ◌≤◌, ◌<◌}

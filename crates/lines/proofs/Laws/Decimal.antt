@@ -1,12 +1,16 @@
 -- Laws of numbers as text. A number's digits are those of a tenth of it and then the last one, whatever bounds the steps; so what they stand for is the number,
 -- and digits without a leading zero are those of what they stand for.
 --
---     decimal-small         below ten a number is one digit, and `decimal-large` from ten on the digits of its tenth and the last one
---     length-decimal        below 10 ^ k it has k digits at most; a value `length-decimal-some` one and `length-decimal-most` ten
---     are_digits-decimal     they are digits, and `value_after-decimal` stand for the number, and `leading_zero-decimal` have no leading zero
+--     decimal-small          below ten a number is one digit, and `decimal-large` from ten on the digits of its tenth
+--                            and the last one
+--     length-decimal         below 10 ^ k it has k digits at most; a value `length-decimal-some` one and
+--                            `length-decimal-most` ten
+--     are_digits-decimal     they are digits, and `value_after-decimal` stand for the number, and
+--                            `leading_zero-decimal` have no leading zero
 --     decimal-value_after    digits behind those of a number but 0 are those of what they stand for together
---     final_digits-all        the last digits of a number, as many as it has, are all of them
---     number_in-obeyed       a text that obeys the rule spells what its digits stand for, and `number_in-broken` any other spells nothing
+--     final_digits-all       the last digits of a number, as many as it has, are all of them
+--     number_in-obeyed       a text that obeys the rule spells what its digits stand for, and `number_in-broken` any
+--                            other spells nothing
 --     number_in-decimal      a value's digits spell it
 --     number_in-one          what spells a number is its digits, and `number_in-below` the number is a value
 -- Assumes nothing.

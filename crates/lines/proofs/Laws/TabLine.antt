@@ -1,10 +1,13 @@
 -- Laws of a line's entry: where the first TAB and the first LF stand decides, and then the number.
 --
 --     tab_entry-no-tab       a line without TAB has none, and `tab_entry-lf` one with an LF before it
---     tab_entry-number       of any other line the number decides, and `tab_entry-parts` says the same by what the parts hold
---     line-parts            a line with a TAB is its parts, and `key_part-join`, `number_part-join` have the parts of a line put together
+--     tab_entry-number       of any other line the number decides, and `tab_entry-parts` says the same by what the
+--                            parts hold
+--     line-parts             a line with a TAB is its parts, and `key_part-join`, `number_part-join` have the parts of
+--                            a line put together
 --     tab_entry-some         what is known of a line with an entry
---     tab_line_key-some       the part handed back is the line's leading part of the length answered, and `tab_line_key-none` empty where the line is refused
+--     tab_line_key-some      the part handed back is the line's leading part of the length answered, and
+--                            `tab_line_key-none` empty where the line is refused
 -- Assumes nothing.
 use mathlib.Core.Path.{◌≡◌, refl, sym, ap, ◌∙◌}
 use Prim.Native.Nat.{ℕ, ◌≤◌, ◌<◌}

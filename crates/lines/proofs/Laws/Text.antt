@@ -4,8 +4,8 @@
 --     lines_of-last          a last line needs no LF
 --     lines_of-first         the first line of a text and the others
 --     lines_of-free          no line has an LF
---     next-none             no line is left exactly where the rest has no lines
---     next-cuts             else the line cut and the lines of the text from the next one on are those of the rest
+--     next-none              no line is left exactly where the rest has no lines
+--     next-cuts              else the line cut and the lines of the text from the next one on are those of the rest
 -- Assumes nothing.
 use mathlib.Core.Path.{◌≡◌, refl, sym, ap, ◌∙◌}
 use Prim.Native.Nat.{ℕ, suc, ◌+◌, ◌-◌, ◌≤◌, ◌<◌, min}

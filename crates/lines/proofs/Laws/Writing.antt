@@ -1,9 +1,10 @@
 -- Laws of text written and read back. A key without TAB ends before the line's first TAB, and digits have neither TAB nor LF,
 -- so the reader cuts a written text where the writer joined it; what the reader takes was written so.
 --
---     length-tab_text        the length of an entry's text
+--     length-tab_text         the length of an entry's text
 --     tab_entry-tab_line      the line of an entry is read as that entry
---     tab_entry-one          a line that is read as an entry is the line of it, so that the entry's text is the line and LF
+--     tab_entry-one           a line that is read as an entry is the line of it, so that the entry's text is the line
+--                             and LF
 --     lines_of-map_text       the lines of a map's text are those of its entries
 --     entries_of-map_text     and they are read as the entries
 -- Assumes nothing.

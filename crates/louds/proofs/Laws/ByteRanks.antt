@@ -1,16 +1,16 @@
 -- The ones of a word, counted in all its bytes at once: in each byte, by folding counts of one digit three times, and up to the end of each, by shifts and sums.
 --
---     lean-less, lean-fours-lt, lean-both-lt   counts of two digits, of four and of eight stay in their fields
---     lean-count     the last are those of each byte
---     ones-parts     the ones below a place and from it on
---     ranked         the ones of the i lowest fields
---     ranked-zero    of none
---     window         the ones of the r fields up to a field
---     windows-start  of one field
---     prefix-sums    shifted by r fields and added, r become 2 r
---     windows-lt     none runs over
---     windows-all    of all fields
---     byte_ranks      the ones up to the end of each byte
+--     lean-less, lean-fours-lt, lean-both-lt  counts of two digits, of four and of eight stay in their fields
+--     lean-count                              the last are those of each byte
+--     ones-parts                              the ones below a place and from it on
+--     ranked                                  the ones of the i lowest fields
+--     ranked-zero                             of none
+--     window                                  the ones of the r fields up to a field
+--     windows-start                           of one field
+--     prefix-sums                             shifted by r fields and added, r become 2 r
+--     windows-lt                              none runs over
+--     windows-all                             of all fields
+--     byte_ranks                              the ones up to the end of each byte
 --
 -- Assumes nothing.
 use Rattle.std.proofs.Common.{◌≡◌, ℕ, zero, suc, ◌+◌, ◌-◌, ◌*◌, ◌/◌, ◌%◌, ◌^◌, ◌<◌, ◌≤◌, sym, refl, ap, ◌∙◌, ap₂, lt_of_le_of_lt, mod-lt, mod-eq_of_lt, zero-lt-suc, add-mul, add_comm, mul-le-mul_left, pow-suc, mul-zero, mul-one, mul-suc, mul-add, arith, pow_pos, shr-shr}

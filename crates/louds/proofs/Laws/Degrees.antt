@@ -1,7 +1,7 @@
 -- The nodes of a degree sequence: its j-th zero, counted from 0, closes the degrees of the first j nodes, so it stands behind their sum in ones and j zeros;
 -- and between it and the next stand as many ones as node j + 1 has children.
 --
---     zero_at-sequence     where the zeros of a sequence stand
+--     zero_at-sequence    where the zeros of a sequence stand
 --     children-sequence   node j + 1 has as many children as its degree, numbered on from those of the nodes before it
 --     children-pack       the same of the words of a sequence
 --

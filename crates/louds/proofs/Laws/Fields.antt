@@ -1,20 +1,20 @@
 -- Numbers by fields of w binary digits, the lowest first: what a machine does to all fields of a word at once, where none of them runs over.
 --
---     joined         the number with the fields f 0, f 1, .., f (n - 1)
---     joined-suc     the lowest field, and the others
---     joined-ext     equal fields
---     joined-add     a sum, field by field
---     joined-lt      n fields make a number below 2 ^ (w * n)
---     joined-field   a field read back
---     joined-whole   a number of its own fields
---     joined-digit   a digit of a field
---     delayed        fields moved up by r places
---     delayed-before, delayed-at   what stands where
---     joined-shl     a shift in a word of r + m fields moves them so
---     comb           the lower half of each field
---     and-comb       these alone
---     folded         the lower halves and the upper halves, added
---     folded-fields  its fields
+--     joined                      the number with the fields f 0, f 1, .., f (n - 1)
+--     joined-suc                  the lowest field, and the others
+--     joined-ext                  equal fields
+--     joined-add                  a sum, field by field
+--     joined-lt                   n fields make a number below 2 ^ (w * n)
+--     joined-field                a field read back
+--     joined-whole                a number of its own fields
+--     joined-digit                a digit of a field
+--     delayed                     fields moved up by r places
+--     delayed-before, delayed-at  what stands where
+--     joined-shl                  a shift in a word of r + m fields moves them so
+--     comb                        the lower half of each field
+--     and-comb                    these alone
+--     folded                      the lower halves and the upper halves, added
+--     folded-fields               its fields
 --
 -- Assumes nothing.
 use Rattle.std.proofs.Common.{◌≡◌, ℕ, zero, suc, ◌+◌, ◌-◌, ◌*◌, ◌/◌, ◌%◌, ◌^◌, ◌<◌, sym, refl, ap, ◌∙◌, ap₂, lt_of_lt_of_le, le-add_right, add-zero, mod-lt, mod-eq_of_lt, mul_assoc, add-mul, add_comm, suc-add, mul-zero, zero-add, zero-mul, mul-one, mul-suc, mul-add, div-one, arith, pow_pos, pow_mono, pow-add, shl_lt, shr-shr}

@@ -1,19 +1,19 @@
 -- Marks by words of 64: what a word of them tells of the k-th mark.
 --
---     mark_word       word w of some marks
---     mark_word-lt    it is a word
---     mark_word-ones  its ones are the marks of its places
---     mark_word-digit, below   a digit of it, and those below a place
---     Look, look     of the marks of a word the left-th, where k are all marks up to it
---     look-inside    a place of the sequence, which is the answer
---     look-past      or one behind it, and the k-th is missing
---     none_left      the sequence ends in a word that has too few
---     marks-ext      the marks of the bits of one value, where these are equal
---     marks-small, onward-small   marks are 0 or 1
---     zeros-marked, ones-marked, none-marked   those of a word's zeros, of its ones, and of no bits
---     first_word     the word of a place without what stands before it
---     next_word      and those behind it
---     none_before    before them there is nothing
+--     mark_word                               word w of some marks
+--     mark_word-lt                            it is a word
+--     mark_word-ones                          its ones are the marks of its places
+--     mark_word-digit, below                  a digit of it, and those below a place
+--     Look, look                              of the marks of a word the left-th, where k are all marks up to it
+--     look-inside                             a place of the sequence, which is the answer
+--     look-past                               or one behind it, and the k-th is missing
+--     none_left                               the sequence ends in a word that has too few
+--     marks-ext                               the marks of the bits of one value, where these are equal
+--     marks-small, onward-small               marks are 0 or 1
+--     zeros-marked, ones-marked, none-marked  those of a word's zeros, of its ones, and of no bits
+--     first_word                              the word of a place without what stands before it
+--     next_word                               and those behind it
+--     none_before                             before them there is nothing
 --
 -- Assumes nothing.
 use Rattle.std.proofs.Common.{◌≡◌, ℕ, zero, suc, ◌+◌, ◌-◌, ◌*◌, ◌/◌, ◌%◌, ◌^◌, ◌<◌, ◌≤◌, List, get_or, sym, refl, ap, ◌∙◌, zero-le, lt_of_lt_of_le, mod-eq_of_lt, add_comm, lt_of_not-le, one-add, arith, pow_pos}

@@ -1,15 +1,15 @@
 -- The place of the j-th one of a word: its byte is found by the ranks of all bytes at once, and ones are taken away from the bottom until it is the lowest.
 --
---     low-bits, top-bits   the lowest bit of each byte, and the highest, as fields
---     sums-fit       what the machine adds and subtracts there does not wrap
+--     low-bits, top-bits      the lowest bit of each byte, and the highest, as fields
+--     sums-fit                what the machine adds and subtracts there does not wrap
 --     ByteFound, byte-found   where the byte of the j-th one begins
---     Picking, picking-start   ones are taken away from the bottom
---     picking-next   one more
---     picking-last   the next is the one sought
---     picking-none   there are no more
---     end-at, has-kth   an answer that is no 64
---     end-few        and one that is
---     from_byte      the j-th one by the digits from a place on
+--     Picking, picking-start  ones are taken away from the bottom
+--     picking-next            one more
+--     picking-last            the next is the one sought
+--     picking-none            there are no more
+--     end-at, has-kth         an answer that is no 64
+--     end-few                 and one that is
+--     from_byte               the j-th one by the digits from a place on
 --
 -- Assumes nothing.
 use Rattle.std.proofs.Common.{◌≡◌, ℕ, zero, suc, ◌+◌, ◌-◌, ◌*◌, ◌/◌, ◌%◌, ◌^◌, ◌<◌, ◌≤◌, sym, refl, ap, ◌∙◌, ap₂, lt_of_lt_of_le, lt_of_le_of_lt, mod-eq_of_lt, add-one, one-add, arith, lit<, lit≤, pow_mono}

@@ -1,13 +1,13 @@
 -- Laws of entering records. The words after one record is entered follow from the puts; with them the chain of its parent is what it was with the record put in by label,
 -- every other chain is as it was, and the record's own is empty. So the pool stays sound but for that record, until its child is entered or it is marked.
 --
---     Entered             the words after a record is entered
---     enter-words         they are so after `entered`
---     parent-or-root      the parent of a record in use is the root or in use
---     enter-keeps         it keeps a pool sound but for the record entered
---     can-enter, can-enter-rest    entering many is entering one, then the rest
---     entered_all_lem         what is so after all are entered
---     mark-keeps          marking the record that is left makes the pool sound
+--     Entered                    the words after a record is entered
+--     enter-words                they are so after `entered`
+--     parent-or-root             the parent of a record in use is the root or in use
+--     enter-keeps                it keeps a pool sound but for the record entered
+--     can-enter, can-enter-rest  entering many is entering one, then the rest
+--     entered_all_lem            what is so after all are entered
+--     mark-keeps                 marking the record that is left makes the pool sound
 -- Assumes nothing.
 use Prim.Native.Nat.{ℕ, ◌+◌, ◌≤◌, ◌<◌}
 use mathlib.Core.Path.{◌≡◌, refl, sym, ◌∙◌, ap, subst}

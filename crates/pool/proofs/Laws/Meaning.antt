@@ -5,7 +5,8 @@
 --     push-means-insert     an accepted push of a sound pool holds the insert
 --     push-means-same       a refused one holds the same map
 --     missing-means-missing the labels that the walk misses are the prefixes that the map misses
---     room-means-prefixes   there is room exactly if the map with the key has no more distinct nonempty prefixes than capacity
+--     room-means-prefixes   there is room exactly if the map with the key has no more distinct nonempty prefixes than
+--                           capacity
 --     present-accepted      a key that is present is accepted, also in a full pool
 -- Assumes nothing.
 use Prim.Native.Nat.{ℕ, ◌+◌, ◌≤◌}

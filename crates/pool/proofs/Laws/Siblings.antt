@@ -1,14 +1,14 @@
 -- Laws of the search among siblings: the search by cases, for the loop; then, along a chain with rising labels, it stops behind the last label below the one sought,
 -- so a child with that label is what it finds.
 --
---     slot-from-..     the search's cases: out of steps, at the chain's end, at the place, one step on
---     slot-from-prev   what the slot follows is where the search began, or one of the chain
---     slot-from-finds  a sibling with the label is found
---     placed-..        a chain with one record more, put in by label
---     child-here, child-none    the two cases of `child_at`
---     child-found      the child with a label is the one
---     child-is         what `child_at` gives is a child with that label
---     child-absent     where it gives none there is none
+--     slot-from-..            the search's cases: out of steps, at the chain's end, at the place, one step on
+--     slot-from-prev          what the slot follows is where the search began, or one of the chain
+--     slot-from-finds         a sibling with the label is found
+--     placed-..               a chain with one record more, put in by label
+--     child-here, child-none  the two cases of `child_at`
+--     child-found             the child with a label is the one
+--     child-is                what `child_at` gives is a child with that label
+--     child-absent            where it gives none there is none
 -- Assumes nothing.
 use Prim.Native.Nat.{ℕ, zero, suc, ◌+◌, ◌-◌, ◌≤◌, ◌<◌}
 use mathlib.Core.Path.{◌≡◌, refl, sym, ◌∙◌, ap, subst}

@@ -1,11 +1,11 @@
 -- Lists of numbers with no number twice, and the pigeonhole: taking one number out of a list and counting what is left shows that n of them from 1 to n are all.
 --
---     Once                no number stands twice
---     Within              all are from 1 to n
---     once-at-most        distinct numbers from 1 to n are at most n
---     cover-at-least      a list with all of 1 to n is at least n long
---     once-covers         n distinct numbers from 1 to n are all of them
---     equal_or_not, below_or_not, in-or-not    the cases to go by
+--     Once                                   no number stands twice
+--     Within                                 all are from 1 to n
+--     once-at-most                           distinct numbers from 1 to n are at most n
+--     cover-at-least                         a list with all of 1 to n is at least n long
+--     once-covers                            n distinct numbers from 1 to n are all of them
+--     equal_or_not, below_or_not, in-or-not  the cases to go by
 -- Assumes nothing.
 use Prim.Native.Nat.{ℕ, zero, suc, ◌+◌, ◌≤◌, ◌<◌}
 use mathlib.Core.Path.{◌≡◌, refl, sym, ◌∙◌, subst}

@@ -1,16 +1,16 @@
 -- Laws of the map that a sound pool holds. A chain of siblings is a list of records, so what hangs below a record is the list of its children with what hangs below each;
 -- going down that forest by bytes is going down the records by labels. No way is longer than the records are many, so the levels never run out.
 --
---     below-children      what hangs below a record is its children, each with what hangs below it
---     value-spelled, value-unspelled    the forest's value at a path, by the record that it spells
---     forest-orderly      the forest is a trie's
---     map-rising, map-catalogue    the map rises, and is one that a pool can hold
---     map-forest          it is the forest's listing
---     map-holds           its entries are the keys that marked records spell, with their values
---     map-prefixes        its distinct nonempty prefixes are the paths of the records in use
---     count-prefixes      so they are as many as the records in use
---     count-forest        and as the nodes of the forest
---     missing-rest        a key misses the bytes behind which its path stops
+--     below-children                  what hangs below a record is its children, each with what hangs below it
+--     value-spelled, value-unspelled  the forest's value at a path, by the record that it spells
+--     forest-orderly                  the forest is a trie's
+--     map-rising, map-catalogue       the map rises, and is one that a pool can hold
+--     map-forest                      it is the forest's listing
+--     map-holds                       its entries are the keys that marked records spell, with their values
+--     map-prefixes                    its distinct nonempty prefixes are the paths of the records in use
+--     count-prefixes                  so they are as many as the records in use
+--     count-forest                    and as the nodes of the forest
+--     missing-rest                    a key misses the bytes behind which its path stops
 -- Assumes nothing.
 use Prim.Native.Nat.{ℕ, zero, suc, ◌+◌, ◌-◌, ◌≤◌, ◌<◌}
 use mathlib.Core.Path.{◌≡◌, refl, sym, ◌∙◌, ap, subst}

@@ -1,12 +1,12 @@
 -- Laws of the test. Its functions by cases, for the loops that compute them; then both directions. A pass that ends with none left has met as many different
 -- records as are in use, so, by the pigeonhole, all of them, and each in the chain of its parent; and in a sound pool every step of the pass goes through.
 --
---     chain-rest-..     the chain's cases: its end, too many met, no child, a step
---     record-rest-..    the record's cases
---     pass-..           the pass's: one record more, broken for good
---     sound-..          the cases of the whole test
---     test-sound, sound-test, sound-iff    the test is true exactly of a sound pool
---     said-means-sound                     and so is an answer that is the test's
+--     chain-rest-..                      the chain's cases: its end, too many met, no child, a step
+--     record-rest-..                     the record's cases
+--     pass-..                            the pass's: one record more, broken for good
+--     sound-..                           the cases of the whole test
+--     test-sound, sound-test, sound-iff  the test is true exactly of a sound pool
+--     said-means-sound                   and so is an answer that is the test's
 -- Assumes nothing.
 use Prim.Native.Nat.{ℕ, zero, suc, ◌+◌, ◌-◌, ◌≤◌, ◌<◌}
 use mathlib.Core.Path.{◌≡◌, refl, sym, ◌∙◌, ap, subst}

@@ -1,15 +1,15 @@
 -- Laws of what records spell. The way up from a record is unique, so a record is spelled by one path only; siblings have different labels, so a path spells one record only;
 -- and the records on a way are distinct, so no path is longer than the records are many.
 --
---     sound-climbs         in a sound pool every record in use reaches the root through parents in use
---     spells-join, spells-cut    ways one behind the other
---     spells-one-path      a record is spelled by one path only
---     spells-one-record    a path spells one record only
---     spells-in-use        a nonempty path spells a record in use
---     spells-most          and has no more bytes than there are records
---     path-spells          the path of a record spells it
---     path-only            and is the only one
---     child-or-not, spelled-or-not    whether there is such a child, such a record
+--     sound-climbs                  in a sound pool every record in use reaches the root through parents in use
+--     spells-join, spells-cut       ways one behind the other
+--     spells-one-path               a record is spelled by one path only
+--     spells-one-record             a path spells one record only
+--     spells-in-use                 a nonempty path spells a record in use
+--     spells-most                   and has no more bytes than there are records
+--     path-spells                   the path of a record spells it
+--     path-only                     and is the only one
+--     child-or-not, spelled-or-not  whether there is such a child, such a record
 -- Assumes nothing.
 use Prim.Native.Nat.{ℕ, zero, suc, ◌+◌, ◌≤◌, ◌<◌}
 use mathlib.Core.Path.{◌≡◌, refl, sym, ◌∙◌, ap, subst}

@@ -1,8 +1,8 @@
 -- Answers that tell the same numbers are the same: each answer is read back from what it tells.
 --
---     said_looked-one, said_prefixed-one    of a key, and of what begins with a query
---     said_common-one                      of common prefixes
---     said_longest-one                     of what is written to a buffer
+--     said_looked-one, said_prefixed-one  of a key, and of what begins with a query
+--     said_common-one                     of common prefixes
+--     said_longest-one                    of what is written to a buffer
 -- Assumes nothing.
 use mathlib.Core.Path.{◌≡◌, refl, sym, ap, ◌∙◌}
 use Prim.Native.Nat.{ℕ}

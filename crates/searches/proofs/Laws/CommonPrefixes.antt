@@ -6,7 +6,7 @@
 --     common-none                                and where none has one there is no match
 --     shortest-end, shortest-next, -lost         what the walk finds on any slices
 --     said-rule                                  on a map's image it is the map's
---     common_says-refused, common_says-accepted    `common_prefix`
+--     common_says-refused, common_says-accepted  `common_prefix`
 --     part-is                                    the part handed back is as long as the first call says
 -- Assumes nothing.
 use mathlib.Core.Path.{◌≡◌, refl, sym, ap, ◌∙◌}

@@ -1,12 +1,12 @@
 -- Two images that agree on what a walk meets answer alike: the children of a node depend on the first 2n+3 bits alone, which of them is taken
 -- on the entries of those that count up to it, and so the walk goes on alike; its last node is one of those.
 --
---     lowest-alike         the search, by the entries looked at
---     walk-alike           the walk
---     end-looked           where it ends
---     untested-alike-looked   the answer
---     looked-met           those looked at are among those met
---     untested-alike          so the answer is the same where those met agree: 02's sentence
+--     lowest-alike           the search, by the entries looked at
+--     walk-alike             the walk
+--     end-looked             where it ends
+--     untested-alike-looked  the answer
+--     looked-met             those looked at are among those met
+--     untested-alike         so the answer is the same where those met agree: 02's sentence
 -- Assumes nothing.
 use mathlib.Core.Path.{◌≡◌, refl, sym, ap, ap₂, ◌∙◌}
 use mathlib.Core.Logic.{◌⊎◌, inl, inr, ⊎_elim}

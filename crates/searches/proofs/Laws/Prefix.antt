@@ -1,12 +1,13 @@
 -- What `longest_prefix` says and writes, by its cases: refused, no match, written, or no room. The keys that begin with a query are those below the node
 -- that the query reaches, and what they have in common is empty exactly if its length is 0.
 --
---     longest-none, longest-some    the common prefix, by its length
---     end_of                        where a glide from the query's node ends
---     longest-refused               of an image that no map has
---     longest-missed                no match: the common prefix is empty, or (`common-unreached`) no key begins with the query
---     longest-short                 it is longer than the buffer
---     longest-written               it is written
+--     longest-none, longest-some  the common prefix, by its length
+--     end_of                      where a glide from the query's node ends
+--     longest-refused             of an image that no map has
+--     longest-missed              no match: the common prefix is empty, or (`common-unreached`) no key begins with the
+--                                 query
+--     longest-short               it is longer than the buffer
+--     longest-written             it is written
 -- Assumes nothing.
 use mathlib.Core.Path.{◌≡◌, refl, sym, ap, ◌∙◌}
 use Prim.Native.Nat.{ℕ, ◌+◌, ◌≤◌, ◌<◌}

@@ -1,8 +1,9 @@
 -- What the lookup says, by the test of the lengths; and of an image that some map has.
 --
---     untested_says-refused, -found                    the answer
---     untested-rule                                  on an image that some map has it is the look-up of the query
---     untested-exact                                 and so what `exact_match` says (02, R-7); `untested-empty`: of the empty query no match
+--     untested_says-refused, -found  the answer
+--     untested-rule                  on an image that some map has it is the look-up of the query
+--     untested-exact                 and so what `exact_match` says (02, R-7); `untested-empty`: of the empty query no
+--                                    match
 -- Assumes nothing.
 use mathlib.Core.Path.{◌≡◌, sym, ap, ◌∙◌}
 use mathlib.Core.Bool.{true, false}

@@ -4,7 +4,7 @@
 --                       the slices by the definitions of an image
 --     length-nodes      n entries, and so n + 1 nodes
 --     length-values     as many values
---     is_node-is         the test of a number, by how many entries there are
+--     is_node-is        the test of a number, by how many entries there are
 --     entry-node        the label entry of a node
 --     value-node        its value
 --     bits_are          the bits are those of the map's image

@@ -1,7 +1,8 @@
 -- Each total move, at a node of an image that some map has, is the map's.
 --
 --     down-path      one step down: the path one byte longer
---     kids-path      the children of a node: the first number, how many, and the stand at each; `kids-some`: there are some exactly if some key goes on
+--     kids-path      the children of a node: the first number, how many, and the stand at each; `kids-some`: there are
+--                    some exactly if some key goes on
 -- Assumes nothing.
 use mathlib.Core.Path.{◌≡◌, refl, sym, ap, ◌∙◌}
 use Prim.Native.Nat.{ℕ, ◌+◌, ◌<◌}

@@ -1,7 +1,7 @@
 -- On an image that some map has, the rule says what the map says: the children of a node are the paths one byte longer, each with its last byte as its label,
 -- so a walk ends at the node of the query's path, and the value found is the query's.
 --
---     node_at-there, node_at-none    the node at a path, by whether some key goes there
+--     node_at-there, node_at-none  the node at a path, by whether some key goes there
 --     child-rule                   the child of a node with a label
 --     step-rule                    a step, from the node at a path
 --     walk-rule                    the node at the end of a query

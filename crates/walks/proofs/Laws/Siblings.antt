@@ -1,9 +1,9 @@
 -- A search among the children of a node: an entry by its bits, and the run of siblings by the ones before them.
 --
---     entry-rule          an entry matches a label by its bits but the mark
---     among-start         the run that is looked through: from the first that counts to the last
---     among-here, -past, -end    a search that found, goes on, or is over
---     lowest-bounds       a child found is above its node, and has an entry
+--     entry-rule               an entry matches a label by its bits but the mark
+--     among-start              the run that is looked through: from the first that counts to the last
+--     among-here, -past, -end  a search that found, goes on, or is over
+--     lowest-bounds            a child found is above its node, and has an entry
 -- Assumes nothing.
 use mathlib.Core.Path.{◌≡◌, refl, sym, ap, ap₂, ◌∙◌}
 use Prim.Native.Nat.{ℕ, zero, suc, ◌+◌, ◌-◌, ◌*◌, ◌/◌, ◌%◌, ◌^◌, ◌≤◌, ◌<◌, max, min}

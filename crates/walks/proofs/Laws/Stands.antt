@@ -1,14 +1,14 @@
 -- A stand that knows its zero goes where the rule goes, on any bits: the zero behind the children is the next node's, and a child's zero lies ahead.
 --
---     is_stand-far, -zero, -small      a place, by the first test that fails
---     kids_from-none, kids_from-some    the children of a stand, by that test
+--     is_stand-far, -zero, -small     a place, by the first test that fails
+--     kids_from-none, kids_from-some  the children of a stand, by that test
 --     kids-numbered                   their numbers
 --     kids-rule                       they are the node's
 --     kids-lost, kids-run             the same by what louds answers of the node, and where the zero behind them is
 --     zero-near                       a zero from a place on, by the zeros before that
 --     kid-rule                        the stand at a child
 --     down_rule, along-rule           one step down, and all steps of a query
---     down_along-next, -over, -lost    these steps in turn
+--     down_along-next, -over, -lost   these steps in turn
 -- Assumes nothing.
 use mathlib.Core.Path.{◌≡◌, refl, sym, ap, ◌∙◌}
 use Prim.Native.Nat.{ℕ, zero, suc, ◌+◌, ◌-◌, ◌≤◌, ◌<◌}

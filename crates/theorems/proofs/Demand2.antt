@@ -1,7 +1,7 @@
 -- Demand 2, by the laws of the searches: on an image that a map has, each call answers by the map that the image stands for; that map is the one whose image it is;
 -- setting a value sets it in the map; and what build leaves after a history is the image of the history's map.
 --
---     every_map        demand 2 of each map that an image can hold
+--     every-map        demand 2 of each map that an image can hold
 --     every-build      and of what build leaves after any history
 -- Assumes nothing.
 use mathlib.Core.Path.{◌≡◌, refl, sym, ap, subst, ◌∙◌}
@@ -201,12 +201,12 @@ map-image m c few =
     let back = image_map-image m c in
     record { few = omega (arith, length-image_labels m); catalogue = subst Catalogue (sym back) c; whole = ap image back }
 
-pub every_map : EveryMap
-every_map m c few es s =
+pub every-map : EveryMap
+every-map m c few es s =
     subst (λ (n : Map). Searches (set_all es n) (set_all_in es (image m))) (image_map-image m c) (all-sets es (image m) (map-image m c few) s)
 
 pub every-build : EveryBuild
 every-build p h cs lent n ls vs ws qs e es s =
     let (c, few) = reset-run-within p h (pool_calls cs) lent in
     let built = ((every-history p h cs lent).builds n ls vs ws qs e).1 in
-    rw built (every_map _ c (omega arith) es s)
+    rw built (every-map _ c (omega arith) es s)

@@ -84,5 +84,5 @@ every-write e out = record {
 pub every-cut : EveryCut
 every-cut text at = record { ends = next-none text at; cuts = λ end next h. let c = next-cuts text at end next h in (c.moves, c.within, c.lines) }
 
-pub read_back : ReadBack
-read_back = entries_of-map_text
+pub read-back : ReadBack
+read-back = entries_of-map_text

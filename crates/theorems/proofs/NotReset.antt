@@ -21,7 +21,7 @@ use Rattle.theorems.specs.Built.{built_image}
 use Rattle.theorems.specs.Demand2.{Demand2}
 use Rattle.theorems.specs.NotReset.{refilled, EverySound}
 use Rattle.theorems.proofs.Built.{run-capacity, built-image}
-use Rattle.theorems.proofs.Demand2.{every_map}
+use Rattle.theorems.proofs.Demand2.{every-map}
 
 module _ (p : Pool) (s : Sound p) (bounded : Bounded p) where
   held : Catalogue (pool_map p)
@@ -45,7 +45,7 @@ module _ (p : Pool) (s : Sound p) (bounded : Bounded p) where
       let holds : pool_map after ≡ m = run-map (pool_calls cs) p s lent in
       let (c, few) = run-within (capacity p) (pool_calls cs) (pool_map p) held (omega (arith, count-prefixes p s, used-within p s)) lent in
       let built = (built-image after (run_sound (pool_calls cs) p s lent) (subst Catalogue (sym holds) c) n ls vs ws qs e).1 ∙ ap image holds in
-      subst (λ (i : Image). Demand2 m i) (sym built) (every_map m c (omega arith))
+      subst (λ (i : Image). Demand2 m i) (sym built) (every-map m c (omega arith))
 
 pub every-sound : EverySound
 every-sound p s bounded = record {

@@ -32,7 +32,7 @@ use Rattle.places.specs.Places.{resume_says, value_says, prefix_len_says, prefix
 use Rattle.theorems.specs.Built.{pool_after, built_image}
 use Rattle.theorems.specs.Listing.{listing_says, given_in}
 use Rattle.theorems.specs.Demand2.{AtPath, NoPlace, Searches, set_all, set_all_in}
-use Rattle.theorems.proofs.Demand2.{every_map, every-build}
+use Rattle.theorems.proofs.Demand2.{every-map, every-build}
 use Rattle.theorems.proofs.Uses.Values.{a, ab, abc, ac, ax, b, c, map_a, catalogue_a, prefixes_a, image_a, image_a-is, pool_a, calls_a, calls_a-lent, rooted_a, four, two}
 use Rattle.theorems.proofs.Uses.Demand3.{needs}
 
@@ -40,12 +40,12 @@ use Rattle.theorems.proofs.Uses.Demand3.{needs}
 
 pub on_a : Searches map_a image_a
 unfolding set_all set_all_in
-on_a = subst (λ (i : Image). Searches map_a i) image_a-is (every_map map_a catalogue_a (omega (arith, prefixes_a)) [] tt)
+on_a = subst (λ (i : Image). Searches map_a i) image_a-is (every-map map_a catalogue_a (omega (arith, prefixes_a)) [] tt)
 
 -- any map of 4,096 nodes and fewer
 pub any-map : (m : Map) → Catalogue m → length (prefixes m) ≤ 4096 → Searches m (image m)
 unfolding set_all set_all_in
-any-map m h few = every_map m h few [] tt
+any-map m h few = every-map m h few [] tt
 
 -- "A: words [45]", by the level-order rule and as the Rust emits them
 pub level-order : 45 ∷ [] ≡ pack (image_bits map_a)
@@ -313,7 +313,7 @@ sets = (ab, 4294967295) ∷ (c, 1) ∷ []
 pub set_values : exact_says (set_all_in sets (image map_a)) ab ∷ exact_says (set_all_in sets (image map_a)) b ∷ exact_says (set_all_in sets (image map_a)) c ∷ [] ≡ (0 ∷ 4294967295 ∷ []) ∷ (0 ∷ 3 ∷ []) ∷ (0 ∷ []) ∷ []
 unfolding set_all lookup insert compare_keys
 set_values =
-    let after : Searches (set_all sets map_a) (set_all_in sets (image map_a)) = every_map map_a catalogue_a (omega (arith, prefixes_a)) sets (omega arith, (omega arith, tt)) in
+    let after : Searches (set_all sets map_a) (set_all_in sets (image map_a)) = every-map map_a catalogue_a (omega (arith, prefixes_a)) sets (omega arith, (omega arith, tt)) in
     λ i. after.exact-match ab i ∷ after.exact-match b i ∷ after.exact-match c i ∷ []
 
 -- ---- out of `EveryBuild`

@@ -12,7 +12,7 @@ use Rattle.lines.specs.Decimal.{are_digits, value_after, leading_zero, is_decima
 use Rattle.lines.specs.TabLine.{key_part, number_part, tab_entry, tab_line_says, tab_line_key}
 use Rattle.lines.specs.Text.{lines_of, entries_of, next_line_says}
 use Rattle.lines.specs.Writing.{tab_line, tab_text, map_text, Plain, write_line_says, write_line_out}
-use Rattle.theorems.proofs.Lines.{every-number, every-line, every-write, every-cut, read_back}
+use Rattle.theorems.proofs.Lines.{every-number, every-line, every-write, every-cut, read-back}
 use Rattle.theorems.proofs.Uses.Values.{ab, b, map_a, four}
 
 plain : Plain (ab, 7)
@@ -106,9 +106,9 @@ ends = ((every-cut text 4).ends.1 refl, (every-cut text 9).ends.1 refl, (every-c
 -- what is written of A's map is read as its entries
 pub reads-map : entries_of (map_text map_a) ≡ some (ab, 7) ∷ some (b, 3) ∷ []
 unfolding holds
-reads-map = read_back map_a (plain, (record { no-tab = refl; no-lf = refl; value = omega arith }, tt))
+reads-map = read-back map_a (plain, (record { no-tab = refl; no-lf = refl; value = omega arith }, tt))
 
 -- and so it is of entries that are no map's
 pub reads-any : entries_of (map_text ((ab, 7) ∷ ([], 0) ∷ (ab, 7) ∷ [])) ≡ some (ab, 7) ∷ some ([], 0) ∷ some (ab, 7) ∷ []
 unfolding holds
-reads-any = read_back ((ab, 7) ∷ ([], 0) ∷ (ab, 7) ∷ []) (plain, (record { no-tab = refl; no-lf = refl; value = omega arith }, (plain, tt)))
+reads-any = read-back ((ab, 7) ∷ ([], 0) ∷ (ab, 7) ∷ []) (plain, (record { no-tab = refl; no-lf = refl; value = omega arith }, (plain, tt)))

@@ -9,8 +9,9 @@ ghost use Rattle.std.specs.Prelude.{◌≤◌, length};
 
 use catalogue::reading::{begin, take_read};
 use catalogue::{CAPACITY, FILE_ROOM, IMAGE_WORDS, OUT_ROOM, POOL_WORDS, answer};
-use libc::STDOUT_FILENO;
 use lines::answers::Cut;
+use replay::lists::read_list;
+use replay::printing::text;
 
 const CASES_ROOM: usize = 2048;
 
@@ -71,22 +72,22 @@ fn expand(case: &[u8], room: &mut [u8]) -> usize
     at
 }
 
-fn show(out: &[u8], length: usize) {
-    io::print_decimal(STDOUT_FILENO, length as u64);
-    io::write_all(STDOUT_FILENO, b" bytes\n");
+fn show(rt: &impl Print, out: &[u8], length: usize) {
+    let _ = println!(rt; "{length} bytes");
     if out.len() < length {
         return;
     }
     if length <= WHOLE {
-        io::write_all(STDOUT_FILENO, &out[..length]);
+        text(rt, &out[..length]);
         return;
     }
-    io::write_all(STDOUT_FILENO, &out[..END]);
-    io::write_all(STDOUT_FILENO, b" .. ");
-    io::write_all(STDOUT_FILENO, &out[length - END..length]);
+    text(rt, &out[..END]);
+    text(rt, b" .. ");
+    text(rt, &out[length - END..length]);
 }
 
 fn run_cases(
+    rt: &impl Print,
     cases: &[u8],
     text: &mut [u8; FILE_ROOM],
     pool: &mut [u32; POOL_WORDS],
@@ -114,16 +115,14 @@ fn run_cases(
         }
         reading = take_read(reading, last);
         let length = answer(reading, text, pool, labels, values, words, scratch, out);
-        show(out, length);
+        show(rt, out, length);
         at = next;
     }
 }
 
-fn main() {
+fn main(rt: HostRuntime) {
     let mut cases = [0u8; CASES_ROOM];
-    let fd = os::open_read(b"cases");
-    let length = io::read_full(fd, &mut cases);
-    libc::close(fd);
+    let length = read_list(&rt, "cases", &mut cases);
     let mut text = [0u8; FILE_ROOM];
     let mut pool = [0u32; POOL_WORDS];
     let mut labels = [0u16; CAPACITY];
@@ -132,6 +131,7 @@ fn main() {
     let mut scratch = [0u32; CAPACITY];
     let mut out = [0u8; OUT_ROOM];
     run_cases(
+        &rt,
         &cases[..length],
         &mut text,
         &mut pool,

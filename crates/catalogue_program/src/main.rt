@@ -8,37 +8,55 @@ ghost use Rattle.catalogue.specs.Program.{program_text};
 
 use catalogue::reading::{Reading, begin, next_at, take_read};
 use catalogue::{CAPACITY, FILE_ROOM, IMAGE_WORDS, OUT_ROOM, POOL_WORDS, answer};
-use libc::STDOUT_FILENO;
+use std::fs::File;
+use std::io::Read;
+use std::rt::Files;
 
-// Reads a file into the room until no read is wanted any more. One that cannot be opened has no descriptor, and the
-// read of none fails.
-fn read_file(name: &[u8], room: &mut [u8]) -> Reading
+// What a read that failed answers.
+const FAILED: isize = -1;
+
+// Reads a file into the room until no read is wanted any more. One that cannot be opened is as one whose first read
+// fails.
+fn read_file(rt: &impl Files, name: &str, room: &mut [u8]) -> Reading
     requires { length room.old ≡ file_room }
     ensures { Finished result }
 {
-    let fd = os::open_read(name);
+    match File::open(rt, name) {
+        Ok(mut file) => read_all(&mut file, room),
+        Err(_) => take_read(begin(), FAILED),
+    }
+}
+
+// The same of a file that is open.
+fn read_all(file: &mut impl Read, room: &mut [u8]) -> Reading
+    requires { length room.old ≡ file_room }
+    ensures { Finished result }
+{
     let mut reading = begin();
     let mut at = next_at(reading);
     while at < FILE_ROOM {
-        reading = take_read(reading, libc::read(fd, &mut room[at..]));
+        let got = match file.read(&mut room[at..]) {
+            Ok(more) => more as isize,
+            Err(_) => FAILED,
+        };
+        reading = take_read(reading, got);
         at = next_at(reading);
     }
-    libc::close(fd);
     reading
 }
 
 // Writes what is to be written of a file that was read. The reading and its room are there for the contract: no other
-// bytes are handed over.
-fn say(reading: Reading, text: &[u8], told: &[u8])
+// bytes are handed over. A write that fails ends the program, and it ends well.
+fn say(rt: &impl Print, reading: Reading, text: &[u8], told: &[u8])
     requires finished { Finished reading }
     requires told_value { told.now ≡ program_text (what_read reading text.now) }
 {
-    io::write_all(STDOUT_FILENO, told);
+    let _ = rt.write_all(told);
 }
 
-fn main() {
+fn main(rt: HostRuntime) {
     let mut text = [0u8; FILE_ROOM];
-    let reading = read_file(b"catalogue.tsv", &mut text);
+    let reading = read_file(&rt, "catalogue.tsv", &mut text);
     let mut pool = [0u32; POOL_WORDS];
     let mut labels = [0u16; CAPACITY];
     let mut values = [0u32; CAPACITY];
@@ -55,5 +73,5 @@ fn main() {
         &mut scratch,
         &mut out,
     );
-    say(reading, &text, &out[..length]);
+    say(&rt, reading, &text, &out[..length]);
 }

@@ -22,25 +22,25 @@ const LENGTHS: usize = 2;
 
 const NAME: usize = 19;
 
-fn built(answer: Built) {
+fn built(rt: &impl Print, answer: Built) {
     match answer {
         Built::Nodes(n) => {
-            number(0);
-            number(n as u64);
+            number(rt, 0);
+            number(rt, n as u64);
         }
-        _ => number(answer.number() as u64),
+        _ => number(rt, answer.number() as u64),
     }
 }
 
-fn show(labels: &[u16], values: &[u32], words: &[u64], scratch: &[u32]) {
-    word(BAR);
-    show_labels(labels, 0, u64::MAX);
-    word(BAR);
-    show_values(values, 0, u64::MAX);
-    word(BAR);
-    show_words(words, 0, u64::MAX);
-    word(BAR);
-    show_values(scratch, 0, u64::MAX);
+fn show(rt: &impl Print, labels: &[u16], values: &[u32], words: &[u64], scratch: &[u32]) {
+    word(rt, BAR);
+    show_labels(rt, labels, 0, u64::MAX);
+    word(rt, BAR);
+    show_values(rt, values, 0, u64::MAX);
+    word(rt, BAR);
+    show_words(rt, words, 0, u64::MAX);
+    word(rt, BAR);
+    show_values(rt, scratch, 0, u64::MAX);
 }
 
 // Where the last of so many entries is.
@@ -51,27 +51,35 @@ fn last(count: usize) -> usize {
     count - 1
 }
 
-fn show_ends(labels: &[u16], values: &[u32], words: &[u64], scratch: &[u32]) {
-    word(BAR);
-    show_labels(labels, last(labels.len()), 1);
-    show_values(values, last(values.len()), 1);
-    show_words(words, last(words.len()), 1);
-    show_values(scratch, last(scratch.len()), 1);
+fn show_ends(rt: &impl Print, labels: &[u16], values: &[u32], words: &[u64], scratch: &[u32]) {
+    word(rt, BAR);
+    show_labels(rt, labels, last(labels.len()), 1);
+    show_values(rt, values, last(values.len()), 1);
+    show_words(rt, words, last(words.len()), 1);
+    show_values(rt, scratch, last(scratch.len()), 1);
 }
 
 // What is written behind the answer of build.
-fn told(line: &[u8], labels: &[u16], values: &[u32], words: &[u64], scratch: &[u32]) {
+fn told(
+    rt: &impl Print,
+    line: &[u8],
+    labels: &[u16],
+    values: &[u32],
+    words: &[u64],
+    scratch: &[u32],
+) {
     if letter(line) == b'e' {
-        show_ends(labels, values, words, scratch);
+        show_ends(rt, labels, values, words, scratch);
     } else {
-        show(labels, values, words, scratch);
+        show(rt, labels, values, words, scratch);
     }
-    word(BAR);
-    number(image::accept(labels, values, words).number() as u64);
-    byte(b'\n');
+    word(rt, BAR);
+    number(rt, image::accept(labels, values, words).number() as u64);
+    byte(rt, b'\n');
 }
 
 fn build(
+    rt: &impl Print,
     line: &[u8],
     pool: &[u32],
     labels: &mut [u16],
@@ -79,10 +87,10 @@ fn build(
     words: &mut [u64],
     scratch: &mut [u32],
 ) {
-    text(line_at(line, NAME));
-    byte(b':');
-    built(image::build(pool, labels, values, words, scratch));
-    told(line, labels, values, words, scratch);
+    text(rt, line_at(line, NAME));
+    byte(rt, b':');
+    built(rt, image::build(pool, labels, values, words, scratch));
+    told(rt, line, labels, values, words, scratch);
 }
 
 // What the buffers hold before: ones in all of their bits, but where the last entries alone are written.
@@ -101,8 +109,19 @@ fn at_most(n: u64, most: usize) -> usize
 }
 
 // A build into buffers of these lengths.
-fn sized(line: &[u8], pool: &[u32], labels: usize, values: usize, words: usize, scratch: usize)
-    requires { (labels ≤ 4096) × (values ≤ 4096) × (words ≤ 129) × (scratch ≤ 4096) }
+fn sized(
+    rt: &impl Print,
+    line: &[u8],
+    pool: &[u32],
+    labels: usize,
+    values: usize,
+    words: usize,
+    scratch: usize,
+)
+    requires labels { labels ≤ 4096 }
+    requires values { values ≤ 4096 }
+    requires words { words ≤ 129 }
+    requires scratch { scratch ≤ 4096 }
 {
     let fill = filling(line);
     let short = (fill % 65536) as u16;
@@ -112,6 +131,7 @@ fn sized(line: &[u8], pool: &[u32], labels: usize, values: usize, words: usize, 
     let mut word_room = [fill; 129];
     let mut scratch_room = [middle; 4096];
     build(
+        rt,
         line,
         pool,
         &mut label_room[..labels],
@@ -122,9 +142,10 @@ fn sized(line: &[u8], pool: &[u32], labels: usize, values: usize, words: usize, 
 }
 
 // The same, with the lengths that the line says.
-fn case(line: &[u8], pool: &[u32]) {
+fn case(rt: &impl Print, line: &[u8], pool: &[u32]) {
     let lengths = hex(line, LENGTHS, 16);
     sized(
+        rt,
         line,
         pool,
         at_most(lengths >> 48, 4096),
@@ -141,7 +162,7 @@ fn push(line: &[u8], pool: &mut [u32]) {
 }
 
 // A case, with as many words of the memory as are the pool; how many are from then on.
-fn answer(line: &[u8], memory: &mut [u32], words: usize) -> usize {
+fn answer(rt: &impl Print, line: &[u8], memory: &mut [u32], words: usize) -> usize {
     let n = number_of(line) as usize;
     let size = match letter(line) {
         b'n' | b'z' => n,
@@ -154,26 +175,26 @@ fn answer(line: &[u8], memory: &mut [u32], words: usize) -> usize {
         }
         b'p' => push(line, &mut memory[..p]),
         b'w' => store_values(memory, n, line),
-        b'b' | b'e' => case(line, &memory[..p]),
+        b'b' | b'e' => case(rt, line, &memory[..p]),
         _ => (),
     }
     size
 }
 
-fn replay(list: &[u8], memory: &mut [u32]) {
+fn replay(rt: &impl Print, list: &[u8], memory: &mut [u32]) {
     let mut words = 0;
     let mut from = 0;
     while from < list.len() {
         let line = line_at(list, from);
         from += line.len();
         from += 1;
-        words = answer(line, memory, words);
+        words = answer(rt, line, memory, words);
     }
 }
 
-fn main() {
+fn main(rt: HostRuntime) {
     let mut room = [0u8; 16384];
     let mut memory = [9u32; 20485];
-    let n = read_list(b"cases", &mut room);
-    replay(&room[..n], &mut memory);
+    let n = read_list(&rt, "cases", &mut room);
+    replay(&rt, &room[..n], &mut memory);
 }

@@ -76,64 +76,70 @@ fn goto_from(labels: &[u16], values: &[u32], words: &[u64], node: u32) -> GotoMo
     }
 }
 
-fn tell(answer: Answer) {
+fn tell(rt: &impl Print, answer: Answer) {
     if answer.is_prefix() {
-        text(b" prefix");
+        text(rt, b" prefix");
     }
     if answer.is_match() {
-        text(b" match");
+        text(rt, b" match");
     }
 }
 
 // What each move answers, and the place afterwards.
-fn queried(moved: QueryMove) -> u32 {
+fn queried(rt: &impl Print, moved: QueryMove) -> u32 {
     let answer = moved.answer;
     match answer {
-        Queried::Found(found) => tell(found),
-        Queried::NoMatch => text(b" no match"),
-        _ => number(answer.number() as u64),
+        Queried::Found(found) => tell(rt, found),
+        Queried::NoMatch => text(rt, b" no match"),
+        _ => number(rt, answer.number() as u64),
     }
     moved.node
 }
 
-fn followed(moved: FollowMove) -> u32 {
+fn followed(rt: &impl Print, moved: FollowMove) -> u32 {
     let answer = moved.answer;
     match answer {
         Followed::Ok(found) => {
-            text(b" Ok");
-            tell(found);
+            text(rt, b" Ok");
+            tell(rt, found);
         }
         Followed::Err(index) => {
-            text(b" Err");
-            number(index as u64);
+            text(rt, b" Err");
+            number(rt, index as u64);
         }
-        _ => number(answer.number() as u64),
+        _ => number(rt, answer.number() as u64),
     }
     moved.node
 }
 
-fn gone(moved: GotoMove) -> u32 {
+fn gone(rt: &impl Print, moved: GotoMove) -> u32 {
     let answer = moved.answer;
     match answer {
         Gone::Ok(distance) => {
-            text(b" Ok");
-            number(distance as u64);
+            text(rt, b" Ok");
+            number(rt, distance as u64);
         }
         Gone::Err(distance) => {
-            text(b" Err");
-            number(distance as u64);
+            text(rt, b" Err");
+            number(rt, distance as u64);
         }
-        _ => number(answer.number() as u64),
+        _ => number(rt, answer.number() as u64),
     }
     moved.node
 }
 
-fn answer(line: &[u8], labels: &[u16], values: &[u32], words: &[u64]) -> u32 {
+fn answer(rt: &impl Print, line: &[u8], labels: &[u16], values: &[u32], words: &[u64]) -> u32 {
     let node = number_of(line);
     match letter(line) {
-        b'q' => queried(query_from(labels, values, words, node, letter(line_at(line, LABEL)))),
-        b'u' => followed(query_until_from(labels, values, words, node, line_at(line, TYPED))),
-        _ => gone(goto_from(labels, values, words, node)),
+        b'q' => queried(
+            rt,
+            query_from(labels, values, words, node, letter(line_at(line, LABEL))),
+        ),
+        b'u' => followed(
+            rt,
+            query_until_from(labels, values, words, node, line_at(line, TYPED)),
+        ),
+        _ => gone(rt, goto_from(labels, values, words, node)),
     }
 }
 
@@ -146,7 +152,7 @@ fn value(line: &[u8], at: usize) -> u32 {
 }
 
 // A line of the list: the name, what the move answers, and the place afterwards.
-fn case(line: &[u8]) {
+fn case(rt: &impl Print, line: &[u8]) {
     let labels = [
         label(line, LABELS),
         label(line, LABELS + 4),
@@ -160,29 +166,29 @@ fn case(line: &[u8]) {
     let words = [hex(line, WORD, 16)];
     let n = of_labels(&labels, hex(line, COUNT, 1) as usize);
     let m = of_values(&values, hex(line, COUNT, 1) as usize);
-    text(line_at(line, NAME));
-    text(b":");
-    let node = answer(line, &labels[..n], &values[..m], &words);
-    text(b", place");
-    number(node as u64);
-    text(b"\n");
+    text(rt, line_at(line, NAME));
+    text(rt, b":");
+    let node = answer(rt, line, &labels[..n], &values[..m], &words);
+    text(rt, b", place");
+    number(rt, node as u64);
+    text(rt, b"\n");
 }
 
-fn replay(list: &[u8]) {
+fn replay(rt: &impl Print, list: &[u8]) {
     let mut from = 0;
     while from < list.len() {
         let line = line_at(list, from);
         from += line.len();
         from += 1;
-        case(line);
+        case(rt, line);
     }
 }
 
-fn main() {
-    text(b"the root, place");
-    number(Place::ROOT.node as u64);
-    text(b"\n");
+fn main(rt: HostRuntime) {
+    text(&rt, b"the root, place");
+    number(&rt, Place::ROOT.node as u64);
+    text(&rt, b"\n");
     let mut room = [0u8; 4096];
-    let n = read_list(b"cases", &mut room);
-    replay(&room[..n]);
+    let n = read_list(&rt, "cases", &mut room);
+    replay(&rt, &room[..n]);
 }

@@ -10,14 +10,14 @@ use crate::text::{BYTES, digits, hex, number as number_of};
 use image::answers::Built;
 
 // How many nodes were built; where build refused, more than there can be.
-fn built(answer: Built) -> u32 {
+fn built(rt: &impl Print, answer: Built) -> u32 {
     match answer {
         Built::Nodes(n) => {
-            number(n as u64);
+            number(rt, n as u64);
             n
         }
         _ => {
-            refused(answer.number());
+            refused(rt, answer.number());
             u32::MAX
         }
     }
@@ -44,6 +44,7 @@ fn start_of(count: u32, last: usize) -> usize
 // The answer to a case that writes an image's memory, and how many nodes were built; no other writes anything.
 // A build is into as much of each buffer as the bytes say, and what is stored is the last of so many entries.
 pub fn answer(
+    rt: &impl Print,
     letter: u8,
     n: u32,
     line: &[u8],
@@ -61,26 +62,29 @@ pub fn answer(
         let c = of_words(words, (most >> 16 & 65535) as usize);
         let d = of_values(scratch, (most & 65535) as usize);
         let p = of_values(pool, pool_words);
-        return built(image::build(
-            &pool[..p],
-            &mut labels[..a],
-            &mut values[..b],
-            &mut words[..c],
-            &mut scratch[..d],
-        ));
+        return built(
+            rt,
+            image::build(
+                &pool[..p],
+                &mut labels[..a],
+                &mut values[..b],
+                &mut words[..c],
+                &mut scratch[..d],
+            ),
+        );
     }
     match letter {
         b'L' => {
             store_labels(labels, start_of(n, digits(line) / 4), line);
-            number(n as u64);
+            number(rt, n as u64);
         }
         b'V' => {
             store_values(values, start_of(n, digits(line) / 8), line);
-            number(n as u64);
+            number(rt, n as u64);
         }
         b'B' => {
             store_words(words, start_of(n, digits(line) / 16), line);
-            number(n as u64);
+            number(rt, n as u64);
         }
         _ => (),
     }
@@ -88,29 +92,36 @@ pub fn answer(
 }
 
 // So many entries of each, from an index on.
-fn show(labels: &[u16], values: &[u32], words: &[u64], from: usize, count: u64) {
-    word(LABELS);
-    show_labels(labels, from, count);
-    word(VALUES);
-    show_values(values, from, count);
-    word(WORDS);
-    show_words(words, from, count);
+fn show(rt: &impl Print, labels: &[u16], values: &[u32], words: &[u64], from: usize, count: u64) {
+    word(rt, LABELS);
+    show_labels(rt, labels, from, count);
+    word(rt, VALUES);
+    show_values(rt, values, from, count);
+    word(rt, WORDS);
+    show_words(rt, words, from, count);
 }
 
 // What stands in the memory of an image, lent or not.
-pub fn look_at(line: &[u8], labels: &[u16], values: &[u32], words: &[u64], scratch: &[u32]) {
+pub fn look_at(
+    rt: &impl Print,
+    line: &[u8],
+    labels: &[u16],
+    values: &[u32],
+    words: &[u64],
+    scratch: &[u32],
+) {
     let from = number_of(line) as usize;
     let count = hex(line, BYTES, 2);
-    show(labels, values, words, from, count);
-    word(SCRATCH);
-    show_values(scratch, from, count);
+    show(rt, labels, values, words, from, count);
+    word(rt, SCRATCH);
+    show_values(rt, scratch, from, count);
 }
 
 // The cases that read the image that is lent.
-pub fn look(letter: u8, labels: &[u16], values: &[u32], words: &[u64]) {
+pub fn look(rt: &impl Print, letter: u8, labels: &[u16], values: &[u32], words: &[u64]) {
     match letter {
-        b'i' => show(labels, values, words, 0, u64::MAX),
-        b'A' => done(ACCEPTED, image::accept(labels, values, words).number()),
+        b'i' => show(rt, labels, values, words, 0, u64::MAX),
+        b'A' => done(rt, ACCEPTED, image::accept(labels, values, words).number()),
         _ => (),
     }
 }

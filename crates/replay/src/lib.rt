@@ -17,6 +17,7 @@ use text::{letter, number};
 
 // The cases of pools and of the memory of images, and what begins the answer to any.
 pub fn remember(
+    rt: &impl Print,
     line: &[u8],
     pool: &mut [u32],
     labels: &mut [u16],
@@ -29,8 +30,10 @@ pub fn remember(
     let n = number(line);
     let lent = lend(letter, n, before);
     let size = lent.pool;
-    head(line);
-    pools::answer(letter, n, line, pool, size);
-    let built = images::answer(letter, n, line, pool, labels, values, words, scratch, size);
+    head(rt, line);
+    pools::answer(rt, letter, n, line, pool, size);
+    let built = images::answer(
+        rt, letter, n, line, pool, labels, values, words, scratch, size,
+    );
     lend_built(built, lent)
 }

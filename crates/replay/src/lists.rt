@@ -1,25 +1,45 @@
 // Reading lists of cases.
 ghost use Rattle.io.specs.Counts.{IsPrefixLen};
 
-// A list into the front of the room, and how long it is.
-pub fn read_list(name: &[u8], room: &mut [u8]) -> usize
+use std::fs::File;
+use std::io::Read;
+use std::rt::Files;
+
+// A list into the front of the room, and how long it is. One that cannot be opened is told of and is empty.
+pub fn read_list<R: Files + Eprint>(rt: &R, name: &str, room: &mut [u8]) -> usize
     ensures { IsPrefixLen result room.new }
 {
-    let fd = os::open_read(name);
-    if fd < 0 {
-        os::fail(name);
-        return 0;
+    match File::open(rt, name) {
+        Ok(mut file) => read_full(&mut file, room),
+        Err(why) => {
+            let _ = eprintln!(rt; "{name}: {why}");
+            0
+        }
     }
-    let n = io::read_full(fd, room);
-    libc::close(fd);
-    n
+}
+
+// Reads until the room is full, the file ends or a read fails, and answers how many bytes stand in the room.
+fn read_full(file: &mut impl Read, room: &mut [u8]) -> usize
+    ensures { IsPrefixLen result room.new }
+{
+    let mut done = 0;
+    while done < room.len() {
+        let Ok(more) = file.read(&mut room[done..]) else {
+            break;
+        };
+        if more == 0 {
+            break;
+        }
+        done += more;
+    }
+    done
 }
 
 // Two lists, one behind the other.
-pub fn read_lists(one: &[u8], other: &[u8], room: &mut [u8]) -> usize
+pub fn read_lists<R: Files + Eprint>(rt: &R, one: &str, other: &str, room: &mut [u8]) -> usize
     ensures { IsPrefixLen result room.new }
 {
-    let first = read_list(one, room);
-    let second = read_list(other, &mut room[first..]);
+    let first = read_list(rt, one, room);
+    let second = read_list(rt, other, &mut room[first..]);
     first + second
 }

@@ -92,40 +92,40 @@ pub fn store_words(all: &mut [u64], from: usize, line: &[u8]) {
 }
 
 // Writes so many entries out, from an index on, as far as there are any.
-pub fn show_labels(all: &[u16], from: usize, count: u64) {
+pub fn show_labels(rt: &impl Print, all: &[u16], from: usize, count: u64) {
     let mut i = from;
     let mut left = count;
     while i < all.len() {
         if left == 0 {
             return;
         }
-        number(all[i] as u64);
+        number(rt, all[i] as u64);
         i += 1;
         left -= 1;
     }
 }
 
-pub fn show_values(all: &[u32], from: usize, count: u64) {
+pub fn show_values(rt: &impl Print, all: &[u32], from: usize, count: u64) {
     let mut i = from;
     let mut left = count;
     while i < all.len() {
         if left == 0 {
             return;
         }
-        number(all[i] as u64);
+        number(rt, all[i] as u64);
         i += 1;
         left -= 1;
     }
 }
 
-pub fn show_words(all: &[u64], from: usize, count: u64) {
+pub fn show_words(rt: &impl Print, all: &[u64], from: usize, count: u64) {
     let mut i = from;
     let mut left = count;
     while i < all.len() {
         if left == 0 {
             return;
         }
-        number(all[i]);
+        number(rt, all[i]);
         i += 1;
         left -= 1;
     }

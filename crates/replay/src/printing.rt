@@ -1,6 +1,6 @@
 // What an answer is written with: words, numbers in decimal and bytes in hexadecimal, each with a space before it.
+// A write that fails is passed over: what comes behind it is written all the same.
 use crate::text::{letter, line_at};
-use libc::STDOUT_FILENO;
 
 // Where each word begins in the list of words.
 pub const REFUSED: usize = 0;
@@ -45,58 +45,58 @@ pub const OK: usize = 126;
 
 pub const ERR: usize = 130;
 
-pub fn text(bytes: &[u8]) {
-    io::write_all(STDOUT_FILENO, bytes);
+pub fn text(rt: &impl Print, bytes: &[u8]) {
+    let _ = rt.write_all(bytes);
 }
 
-pub fn word(begin: usize) {
-    text(line_at(
-        b" refused\n done\n labels\n values\n words\n scratch\n accepted\n none\n yes\n no\n |\n end\n top\n last\n finished\n at\n prefix\n match\n both\n ok\n err",
-        begin,
-    ));
+pub fn word(rt: &impl Print, begin: usize) {
+    text(
+        rt,
+        line_at(
+            b" refused\n done\n labels\n values\n words\n scratch\n accepted\n none\n yes\n no\n |\n end\n top\n last\n finished\n at\n prefix\n match\n both\n ok\n err",
+            begin,
+        ),
+    );
 }
 
-pub fn byte(b: u8) {
-    text(&[b]);
+pub fn byte(rt: &impl Print, b: u8) {
+    text(rt, &[b]);
 }
 
-pub fn number(n: u64) {
-    byte(b' ');
-    io::print_decimal(STDOUT_FILENO, n);
+pub fn number(rt: &impl Print, n: u64) {
+    let _ = print!(rt; " {n}");
 }
 
-pub fn refused(refusal: u32) {
-    word(REFUSED);
-    number(refusal as u64);
+pub fn refused(rt: &impl Print, refusal: u32) {
+    word(rt, REFUSED);
+    number(rt, refusal as u64);
 }
 
 // What begins an answer: the letter of the case. A title is written as it stands.
-pub fn head(line: &[u8]) {
+pub fn head(rt: &impl Print, line: &[u8]) {
     if letter(line) == b'#' {
-        text(line);
+        text(rt, line);
         return;
     }
-    byte(letter(line));
+    byte(rt, letter(line));
 }
 
 // The word, or a refusal by its number.
-pub fn done(begin: usize, refusal: u32) {
+pub fn done(rt: &impl Print, begin: usize, refusal: u32) {
     if refusal == 0 {
-        word(begin);
+        word(rt, begin);
         return;
     }
-    refused(refusal);
+    refused(rt, refusal);
 }
 
 // Nothing where there are no bytes.
-pub fn bytes(all: &[u8]) {
-    if all.len() == 0 {
+pub fn bytes(rt: &impl Print, all: &[u8]) {
+    if all.is_empty() {
         return;
     }
-    byte(b' ');
-    let mut i = 0;
-    while i < all.len() {
-        io::print_hex(STDOUT_FILENO, all[i] as u64, 2);
-        i += 1;
+    byte(rt, b' ');
+    for b in all {
+        let _ = print!(rt; "{b:02x}");
     }
 }

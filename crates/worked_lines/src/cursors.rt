@@ -11,63 +11,70 @@ const KIND: usize = 11;
 
 const TOP_AT: usize = 13;
 
-fn tell(held: Held) {
-    number(held.kind as u64);
+fn tell(rt: &impl Print, held: Held) {
+    number(rt, held.kind as u64);
     if held.open {
-        word(TOP);
-        number(held.top as u64);
-        word(LAST);
-        number(held.last as u64);
+        word(rt, TOP);
+        number(rt, held.top as u64);
+        word(rt, LAST);
+        number(rt, held.last as u64);
         return;
     }
-    word(FINISHED);
+    word(rt, FINISHED);
 }
 
 // The cursor stays as it was.
-fn refuse(held: Held, refusal: u32) -> Held {
+fn refuse(rt: &impl Print, held: Held, refusal: u32) -> Held {
     let mut after = held;
-    refused(refusal);
+    refused(rt, refusal);
     after.refused = true;
     after
 }
 
-fn stepped(answer: Stepped, held: Held) -> Held {
+fn stepped(rt: &impl Print, answer: Stepped, held: Held) -> Held {
     match answer {
         Stepped::Gave { node, value, next } => {
-            number(node as u64);
-            number(value as u64);
+            number(rt, node as u64);
+            number(rt, value as u64);
             hold(held.place, next)
         }
         Stepped::End { next } => {
-            word(END);
+            word(rt, END);
             hold(held.place, next)
         }
-        _ => refuse(held, answer.number()),
+        _ => refuse(rt, held, answer.number()),
     }
 }
 
-fn step(labels: &[u16], values: &[u32], words: &[u64], held: Held) -> Held {
-    stepped(trie::step(labels, values, words, cursor(held)), held)
+fn step(rt: &impl Print, labels: &[u16], values: &[u32], words: &[u64], held: Held) -> Held {
+    stepped(rt, trie::step(labels, values, words, cursor(held)), held)
 }
 
-fn started(answer: Started, held: Held) -> Held {
+fn started(rt: &impl Print, answer: Started, held: Held) -> Held {
     match answer {
         Started::At(first) => hold(held.place, first),
-        _ => refuse(held, answer.number()),
+        _ => refuse(rt, held, answer.number()),
     }
 }
 
 // A whole listing, each step with the key that it gave, up to the second end. There are no more keys than nodes.
-fn listing(labels: &[u16], values: &[u32], words: &[u64], query: &[u8], first: Held) -> Held {
+fn listing(
+    rt: &impl Print,
+    labels: &[u16],
+    values: &[u32],
+    words: &[u64],
+    query: &[u8],
+    first: Held,
+) -> Held {
     let mut held = first;
     let mut ended = false;
     let mut turns = 4098u32;
     while turns > 0 {
         turns -= 1;
-        word(BAR);
-        held = step(labels, values, words, held);
+        word(rt, BAR);
+        held = step(rt, labels, values, words, held);
         if held.open {
-            spell(b'K', LONGEST, query, labels, values, words, held);
+            spell(rt, b'K', LONGEST, query, labels, values, words, held);
         } else {
             if ended {
                 return held;
@@ -78,17 +85,24 @@ fn listing(labels: &[u16], values: &[u32], words: &[u64], query: &[u8], first: H
     held
 }
 
-fn list(labels: &[u16], values: &[u32], words: &[u64], query: &[u8], first: Held) -> Held {
+fn list(
+    rt: &impl Print,
+    labels: &[u16],
+    values: &[u32],
+    words: &[u64],
+    query: &[u8],
+    first: Held,
+) -> Held {
     if first.refused {
         return first;
     }
-    tell(first);
-    listing(labels, values, words, query, first)
+    tell(rt, first);
+    listing(rt, labels, values, words, query, first)
 }
 
-fn told(held: Held) -> Held {
+fn told(rt: &impl Print, held: Held) -> Held {
     if !held.refused {
-        tell(held);
+        tell(rt, held);
     }
     held
 }
@@ -107,6 +121,7 @@ fn made(last: u32, line: &[u8], held: Held) -> Held {
 
 // The answer to a case that is a cursor's; no other writes anything.
 pub fn answer(
+    rt: &impl Print,
     letter: u8,
     n: u32,
     line: &[u8],
@@ -118,21 +133,27 @@ pub fn answer(
 ) -> Held {
     match letter {
         b'f' => list(
+            rt,
             labels,
             values,
             words,
             query,
-            started(trie::predictive_search(labels, values, words, query), held),
+            started(
+                rt,
+                trie::predictive_search(labels, values, words, query),
+                held,
+            ),
         ),
         b'g' => list(
+            rt,
             labels,
             values,
             words,
             query,
-            started(trie::postfix_search(labels, values, words, query), held),
+            started(rt, trie::postfix_search(labels, values, words, query), held),
         ),
-        b'C' => told(made(n, line, held)),
-        b'S' => told(step(labels, values, words, held)),
+        b'C' => told(rt, made(n, line, held)),
+        b'S' => told(rt, step(rt, labels, values, words, held)),
         _ => held,
     }
 }

@@ -22,6 +22,7 @@ const LIST_BYTES: usize = 655360;
 
 // The cases that read the image that is lent.
 fn read(
+    rt: &impl Print,
     line: &[u8],
     query: &[u8],
     labels: &[u16],
@@ -31,21 +32,29 @@ fn read(
 ) -> Held {
     let letter = letter(line);
     let n = number(line);
-    images::look(letter, labels, values, words);
-    queries::answer(letter, n, query, labels, values, words);
-    spelling::answer(letter, n, query, labels, values, words, held);
-    let moved = incremental::answer(letter, n, query, labels, values, words, held);
-    cursors::answer(letter, n, line, query, labels, values, words, moved)
+    images::look(rt, letter, labels, values, words);
+    queries::answer(rt, letter, n, query, labels, values, words);
+    spelling::answer(rt, letter, n, query, labels, values, words, held);
+    let moved = incremental::answer(rt, letter, n, query, labels, values, words, held);
+    cursors::answer(rt, letter, n, line, query, labels, values, words, moved)
 }
 
 // The case that sets a value, over as much of the memory as is lent.
-fn set(line: &[u8], labels: &[u16], values: &mut [u32], words: &[u64], lent: Lent) {
+fn set(
+    rt: &impl Print,
+    line: &[u8],
+    labels: &[u16],
+    values: &mut [u32],
+    words: &[u64],
+    lent: Lent,
+) {
     let mut space = [0u8; LONGEST];
     let k = text::bytes(line, &mut space);
     let a = of_labels(labels, lent.labels);
     let b = of_values(values, lent.values);
     let c = of_words(words, lent.words);
     queries::set_value(
+        rt,
         number(line),
         &space[..k],
         &labels[..a],
@@ -56,6 +65,7 @@ fn set(line: &[u8], labels: &[u16], values: &mut [u32], words: &[u64], lent: Len
 
 // The other cases that search, and the one that reads all of the memory.
 fn look(
+    rt: &impl Print,
     line: &[u8],
     labels: &[u16],
     values: &[u32],
@@ -66,7 +76,7 @@ fn look(
 ) -> Held {
     let letter = letter(line);
     if letter == b'h' {
-        images::look_at(line, labels, values, words, scratch);
+        images::look_at(rt, line, labels, values, words, scratch);
         return held;
     }
     let mut space = [b'a'; LONGEST];
@@ -75,6 +85,7 @@ fn look(
     let b = of_values(values, lent.values);
     let c = of_words(words, lent.words);
     read(
+        rt,
         line,
         &space[..k],
         &labels[..a],
@@ -85,6 +96,7 @@ fn look(
 }
 
 fn search(
+    rt: &impl Print,
     line: &[u8],
     labels: &[u16],
     values: &mut [u32],
@@ -94,13 +106,14 @@ fn search(
     held: Held,
 ) -> Held {
     if letter(line) == b's' {
-        set(line, labels, values, words, lent);
+        set(rt, line, labels, values, words, lent);
         return held;
     }
-    look(line, labels, values, words, scratch, lent, held)
+    look(rt, line, labels, values, words, scratch, lent, held)
 }
 
 fn replay(
+    rt: &impl Print,
     list: &[u8],
     pool: &mut [u32],
     labels: &mut [u16],
@@ -115,21 +128,22 @@ fn replay(
         let line = line_at(list, from);
         from += line.len();
         from += 1;
-        lent = remember(line, pool, labels, values, words, scratch, lent);
-        held = search(line, labels, values, words, scratch, lent, held);
-        byte(b'\n');
+        lent = remember(rt, line, pool, labels, values, words, scratch, lent);
+        held = search(rt, line, labels, values, words, scratch, lent, held);
+        byte(rt, b'\n');
     }
 }
 
-fn main() {
+fn main(rt: HostRuntime) {
     let mut room = [0u8; LIST_BYTES];
     let mut pool = [0u32; 20500];
     let mut labels = [0u16; 4100];
     let mut values = [0u32; 4100];
     let mut words = [0u64; 130];
     let mut scratch = [0u32; 4096];
-    let n = read_lists(b"rust_cases", b"document_cases", &mut room);
+    let n = read_lists(&rt, "rust_cases", "document_cases", &mut room);
     replay(
+        &rt,
         &room[..n],
         &mut pool,
         &mut labels,

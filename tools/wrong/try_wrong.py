@@ -36,12 +36,12 @@ from edits import PARTS, ROOT, Unfit, edits, is_named
 
 # What rests on a refused declaration is refused in these words, whatever is wrong with that one.
 PASSED_ON = re.compile(r'^\d+ declarations? that depends? on .* (was|were) not checked')
-UNNAMED = re.compile(r'^no `mod` line names this file|is the proof of no function')
+UNNAMED = re.compile(r'^no `mod` line names this file|for this file to be the proof of')
 SHAPE = re.compile(r'has no `[^`]*` that can be named|has no field|is not in scope')
-FAILS = re.compile(r'(goal|part `[^`]*` of the goal|part) fails')
+FAILS = re.compile(r'(goal|part|part `[^`]*` of the goal) fails|goal is false')
 FORM = re.compile(r'[-+*/%<>=!&|^]+|\b[a-z]\w*(?=\()')
 LAW = re.compile(r'Laws\.')
-SAFETY = re.compile(r'(overflow|in_bounds|shift|shl|shr|cast|index|part|slice|div|rem)[_-]|.*-requires|.*-less')
+SAFETY = re.compile(r'(overflow_\w+|nonzero_\w+|bounds|slice_bounds|offset_bounds|shape_of)-|.*-requires|.*-smaller')
 PROOFS = ('Answers', 'Invariants', 'Proof')
 
 KIT = Path(shutil.which('rt') or sys.exit('rt is not on the path')).resolve().parent.parent
@@ -186,7 +186,7 @@ def refused_itself(crate, said):
     """What is refused for itself, in the order told, as (function or law, goal, why)."""
     found, goals = [], []
     for line in said.split('\n'):
-        at = re.match(r'(?:note: )?(?:\./)?(\S+?)\.(?:antt|rt):\d+:\d+: (error|it is not proved)(.*)', line)
+        at = re.match(r'(?:note: )?(?:\./)?(\S+?)\.(?:antt|rt)(?::\d+:\d+)?: (error|it is not proved)(.*)', line)
         state = re.match(r'fn (\S+): (.*)', line)
         if at and at[2] == 'error':
             goal, why = re.match(r'(?:\[[\w-]+\])?: (?:`([^`]*)`: )?(.*)', at[3]).groups('')

@@ -4,7 +4,7 @@
 #     tools/run_catalogue.sh [FILE]
 #
 # FILE is the sample crates/catalogue_program/data/sample.tsv where none is given. The program reads a copy of it in a temporary folder.
-# Needs `rt` on the path, or RATTLE_HOME besides where `rt` stands elsewhere. Works on x86-64, and on Arm by the toolchain's emulator.
+# Needs `rt` on the path. Works on x86-64.
 set -eu
 . "$(dirname "$0")/program.sh"
 

@@ -54,7 +54,8 @@ fn query_until_from(
     node: u32,
     text: &[u8],
 ) -> FollowMove
-    ensures { FollowPromise (lent_image labels values words) text.now (place_at node) result.answer (place_at result.node) }
+    ensures { FollowPromise (lent_image labels values words) text.now (place_at node) result.answer
+        (place_at result.node) }
 {
     let mut place = Place { node };
     let answer = query_until(labels, values, words, &mut place, text);

@@ -49,7 +49,7 @@ fn read_all(file: &mut impl Read, room: &mut [u8]) -> Reading
 // bytes are handed over. A write that fails ends the program, and it ends well.
 fn say(rt: &impl Print, reading: Reading, text: &[u8], told: &[u8])
     requires finished { Finished reading }
-    requires told_value { told.now ≡ program_text (what_read reading text.now) }
+    requires whole { told.now ≡ program_text (what_read reading text.now) }
 {
     let _ = rt.write_all(told);
 }

@@ -37,7 +37,8 @@ from edits import PARTS, ROOT, Unfit, edits, is_named
 # What rests on a refused declaration is refused in these words, whatever is wrong with that one.
 PASSED_ON = re.compile(r'^\d+ declarations? that depends? on .* (was|were) not checked')
 UNNAMED = re.compile(r'^no `mod` line names this file|for this file to be the proof of')
-SHAPE = re.compile(r'has no `[^`]*` that can be named|has no field|is not in scope')
+SHAPE = re.compile(r'has no `[^`]*` that can be named|Lts\.[^`]*`( \(nearest: [^)]*\))? has no field|is not in scope')
+UNANSWERED = 'it is not proved'
 FAILS = re.compile(r'(goal|part|part `[^`]*` of the goal) fails|goal is false')
 FORM = re.compile(r'[-+*/%<>=!&|^]+|\b[a-z]\w*(?=\()')
 LAW = re.compile(r'Laws\.')
@@ -185,8 +186,9 @@ def touched(edit, made):
 def refused_itself(crate, said):
     """What is refused for itself, in the order told, as (function or law, goal, why)."""
     found, goals = [], []
-    for line in said.split('\n'):
-        at = re.match(r'(?:note: )?(?:\./)?(\S+?)\.(?:antt|rt)(?::\d+:\d+)?: (error|it is not proved)(.*)', line)
+    # a message goes on in lines that begin with two spaces
+    for line in re.sub('\n  +', ' ', said).split('\n'):
+        at = re.match(rf'(?:note: )?(?:\./)?(\S+?)\.(?:antt|rt)(?::\d+:\d+)?: (error|{UNANSWERED})(.*)', line)
         state = re.match(r'fn (\S+): (.*)', line)
         if at and at[2] == 'error':
             goal, why = re.match(r'(?:\[[\w-]+\])?: (?:`([^`]*)`: )?(.*)', at[3]).groups('')
@@ -231,7 +233,9 @@ def verdict_of(edit, found):
         own = [why for name, _, why in found if is_named(wanted, name)]
         if not own:
             return f'NOT REFUSED FOR ITSELF: {wanted}'
-        if all(SHAPE.search(why) for why in own):
+        # a goal without an answer may have lost it to another name, as a condition's other words give it
+        renamed = any(SHAPE.search(why) for why in own)
+        if all(SHAPE.search(why) or renamed and UNANSWERED in why and not FAILS.search(why) for why in own):
             return f'NOT REFUSED FOR A FACT: the proof of {wanted} no longer fits the code'
     return 'refused'
 

@@ -3,7 +3,7 @@
 
     python3 tools/port/respell.py
 
-It ran once, behind /opt/rattle/port/port.py, on the tree that docs/PORT.md names first. A definition, law or local name of specs/
+It ran once, behind the toolchain's port.py, on the tree that docs/PORT.md names first. A definition, law or local name of specs/
 or proofs/ whose spelling is `likeThis` is written `like_this`, wherever it stands: in specs/, proofs/, clauses, comments, edits, the
 pages and tools/. Functions of src/, types, modules, strings, inputs and outputs keep their names.
 """

@@ -39,7 +39,7 @@ pub fn next_at(reading: Reading) -> usize
     reading.done
 }
 
-// After a read that answered `got`, as `libc::read` does.
+// After a read that answered `got`, as the system's read does.
 pub fn take_read(reading: Reading, got: isize) -> Reading
     ensures { result ≡ take_read reading got }
 {

@@ -122,7 +122,7 @@ fn run_cases(
 
 fn main(rt: HostRuntime) {
     let mut cases = [0u8; CASES_ROOM];
-    let length = read_list(&rt, "cases", &mut cases);
+    let length = read_list(&rt, b"cases", &mut cases);
     let mut text = [0u8; FILE_ROOM];
     let mut pool = [0u32; POOL_WORDS];
     let mut labels = [0u16; CAPACITY];

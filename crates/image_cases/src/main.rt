@@ -195,6 +195,6 @@ fn replay(rt: &impl Print, list: &[u8], memory: &mut [u32]) {
 fn main(rt: HostRuntime) {
     let mut room = [0u8; 16384];
     let mut memory = [9u32; 20485];
-    let n = read_list(&rt, "cases", &mut room);
+    let n = read_list(&rt, b"cases", &mut room);
     replay(&rt, &room[..n], &mut memory);
 }

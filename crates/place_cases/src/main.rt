@@ -190,6 +190,6 @@ fn main(rt: HostRuntime) {
     number(&rt, Place::ROOT.node as u64);
     text(&rt, b"\n");
     let mut room = [0u8; 4096];
-    let n = read_list(&rt, "cases", &mut room);
+    let n = read_list(&rt, b"cases", &mut room);
     replay(&rt, &room[..n]);
 }

@@ -5,14 +5,27 @@ use std::fs::File;
 use std::io::Read;
 use std::rt::Files;
 
-// A list into the front of the room, and how long it is. One that cannot be opened is told of and is empty.
-pub fn read_list<R: Files + Eprint>(rt: &R, name: &str, room: &mut [u8]) -> usize
+// A list into the front of the room, and how long it is. One that cannot be opened is told of and is empty, as is one
+// whose name is no text: std opens no such file.
+pub fn read_list<R: Files + Eprint>(rt: &R, name: &[u8], room: &mut [u8]) -> usize
     ensures { IsPrefixLen result room.new }
 {
-    match File::open(rt, name) {
+    match str::from_utf8(name) {
+        Ok(path) => read_path(rt, path, room),
+        Err(why) => {
+            let _ = eprintln!(rt; "{why}");
+            0
+        }
+    }
+}
+
+fn read_path<R: Files + Eprint>(rt: &R, path: &str, room: &mut [u8]) -> usize
+    ensures { IsPrefixLen result room.new }
+{
+    match File::open(rt, path) {
         Ok(mut file) => read_full(&mut file, room),
         Err(why) => {
-            let _ = eprintln!(rt; "{name}: {why}");
+            let _ = eprintln!(rt; "{path}: {why}");
             0
         }
     }
@@ -36,7 +49,7 @@ fn read_full(file: &mut impl Read, room: &mut [u8]) -> usize
 }
 
 // Two lists, one behind the other.
-pub fn read_lists<R: Files + Eprint>(rt: &R, one: &str, other: &str, room: &mut [u8]) -> usize
+pub fn read_lists<R: Files + Eprint>(rt: &R, one: &[u8], other: &[u8], room: &mut [u8]) -> usize
     ensures { IsPrefixLen result room.new }
 {
     let first = read_list(rt, one, room);

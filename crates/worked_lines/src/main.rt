@@ -141,7 +141,7 @@ fn main(rt: HostRuntime) {
     let mut values = [0u32; 4100];
     let mut words = [0u64; 130];
     let mut scratch = [0u32; 4096];
-    let n = read_lists(&rt, "rust_cases", "document_cases", &mut room);
+    let n = read_lists(&rt, b"rust_cases", b"document_cases", &mut room);
     replay(
         &rt,
         &room[..n],

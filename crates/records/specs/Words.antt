@@ -1,12 +1,12 @@
 -- The words of a pool (01, "The pool"): five to the record, record 0 the root. Words beyond the last whole record are
 -- surplus.
 --
---     word                                      of a record in use                 of the root
+--     word                     of a record in use                 of the root
 --     0      label, plus 256 if it has a value  the number n of other records in use
---     1      value, 0 if none                   0
---     2      first child, 0 if none             first child, 0 if none
---     3      next sibling, 0 if none            0
---     4      parent                             0
+--     1      value, 0 if none  0
+--     2      first child, 0 if none  first child, 0 if none
+--     3      next sibling, 0 if none  0
+--     4      parent            0
 --
 --     word, put     a word of a record; the pool with another word there
 --     last_record   the highest record that may be in use; records above it may hold anything

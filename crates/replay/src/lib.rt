@@ -1,6 +1,5 @@
 // What the case programs share: the lines of a list of cases, the memory that the calls are lent, how an answer is
-// written,
-// and the cases of pools and of the memory of images. tools/oracle/README.md has the letters.
+// written, and the cases of pools and of the memory of images. tools/oracle/README.md has the letters.
 #![tactic(auto)]
 
 pub mod counts;

@@ -1,12 +1,10 @@
 -- What the program writes, and what it leaves of its rooms.
 --
---     fills                                                          a pool of the program's length, after a reset and
---                                                                    the lines of a text
---     listing-length                                                 the listing of a text is at most a byte longer
---                                                                    than the text
+--     fills           a pool of the program's length, after a reset and the lines of a text
+--     listing-length  the listing of a text is at most a byte longer than the text
 --     unread-written, long-written, refused-written, listed-written  what is written and left, by cases of what was
---                                                                    read
---     listing-fits                                                   a listing has room
+--                     read
+--     listing-fits    a listing has room
 -- Assumes nothing.
 use mathlib.Core.Path.{◌≡◌, refl, sym, ap, subst, ◌∙◌}
 use Prim.Native.Nat.{ℕ, suc, ◌+◌, ◌≤◌, ◌<◌, Ordering}

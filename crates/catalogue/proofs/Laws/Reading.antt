@@ -1,9 +1,8 @@
 -- Laws of a file read piece by piece.
 --
 --     take-over, take-failed, take_ends, take-goes, take-full  `take_read` by cases, of a count as the machine holds it
---     count_fits                                               a count that is not negative is a number
---     room-shrinks                                             a read that is wanted goes on or ends the reading, so
---                                                              that reading ends
+--     count_fits    a count that is not negative is a number
+--     room-shrinks  a read that is wanted goes on or ends the reading, so that reading ends
 -- Assumes nothing.
 use Prim.Native.Nat.{ℕ, zero, suc, ◌+◌, ◌-◌, ◌≤◌, ◌<◌}
 use mathlib.Core.Path.{◌≡◌, refl, sym, ap, ◌∙◌}

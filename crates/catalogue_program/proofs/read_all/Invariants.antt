@@ -1,4 +1,4 @@
--- `catalogue_program::read_all` meets its contract and ends: each read that is wanted goes on or ends the reading.
+-- `catalogue_program::read_all` meets its contract: the place for the next read is that of the reading.
 -- Assumes nothing.
 use Rattle.std.proofs.Common.{◌≡◌, ◌-◌}
 use Rattle.catalogue.specs.Reading.{file_room, next_at}

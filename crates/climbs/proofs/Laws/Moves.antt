@@ -1,13 +1,13 @@
 -- A perch that knows its one goes where the rule goes, on any bits; and a climb ends, since each parent's number is below.
 --
---     leads-far, -zero, -before, -last               a perch, by the first test that fails; `leads-told`: what it tells
+--     leads-far, -zero, -before, -last  a perch, by the first test that fails; `leads-told`: what it tells
 --     first_from-far, -missing, -bare, -out, -child  the first child of a perch, by the first test that fails;
---                                                    `zero-ahead`: its node's zero is not before its one
---     beside_from-last, -bare, -there                its next sibling
---     rise-lower                                     a parent's number is lower
---     climb_from-top, -beside, -lost, -up            a climb, by where it is
---     advance-rule                                   the next perch is the rule's
---     moved_to, moved-lost                           what a move from a perch that knows its one tells
+--                           `zero-ahead`: its node's zero is not before its one
+--     beside_from-last, -bare, -there  its next sibling
+--     rise-lower            a parent's number is lower
+--     climb_from-top, -beside, -lost, -up  a climb, by where it is
+--     advance-rule          the next perch is the rule's
+--     moved_to, moved-lost  what a move from a perch that knows its one tells
 -- Assumes nothing.
 use mathlib.Core.Path.{◌≡◌, refl, sym, ap, ap₂, ◌∙◌}
 use Prim.Native.Nat.{ℕ, zero, suc, ◌+◌, ◌-◌, ◌≤◌, ◌<◌}

@@ -1,11 +1,10 @@
 -- What `accept` says: refusal 6 exactly if no map has the image, and equal numbers are equal answers.
 --
 --     accept_says-accepted, accept_says-refused  by the test
---     accept-means-map                           0 exactly if some map with nonempty keys has the image
---     accept-means-none                          6 exactly if none has
---     said-means-map                             an answer that says what the test says is 0 exactly if some map has
---                                                the image
---     said-checked-one                           two answers that say the same are the same
+--     accept-means-map   0 exactly if some map with nonempty keys has the image
+--     accept-means-none  6 exactly if none has
+--     said-means-map     an answer that says what the test says is 0 exactly if some map has the image
+--     said-checked-one   two answers that say the same are the same
 -- Assumes nothing.
 use mathlib.Core.Path.{◌≡◌, refl, sym, ap, ◌∙◌}
 use mathlib.Core.Logic.{◌↔◌}

@@ -1,6 +1,6 @@
 -- Laws of the answers' numbers. What was said can be heard again, so two answers that say the same are the same.
 --
---     said-parsed-one, said-cut-one, said-written-one    equal numbers mean equal answers
+--     said-parsed-one, said-cut-one, said-written-one  equal numbers mean equal answers
 -- Assumes nothing.
 use Prim.Native.Nat.{ℕ}
 use mathlib.Core.Path.{◌≡◌, refl, sym, ◌∙◌, ap}

@@ -1,6 +1,6 @@
 -- Answers that tell the same numbers are the same: each answer is read back from what it tells.
 --
---     said_cursor-one, said_started-one, said_stepped-one    of cursors, starts and steps
+--     said_cursor-one, said_started-one, said_stepped-one  of cursors, starts and steps
 -- Assumes nothing.
 use mathlib.Core.Path.{◌≡◌, refl, sym, ap, ◌∙◌}
 use Prim.Native.Nat.{ℕ, zero, suc}

@@ -1,28 +1,16 @@
 -- The set of a listing, the cursors that belong, and what the calls say. A cursor's numbers stand for paths, and a key's value in the set is its value in the map
 -- if the set's test keeps it. The two kinds differ in the top's own key alone, so that both go on as the predictive one does.
 --
---     entry-path                                                                          the key of an entry is the
---                                                                                         path of a node
---     set_of-rising, set_of-in, set-none                                                  a set rises; its keys; and no
---                                                                                         set where no key goes;
---                                                                                         `top-node`: what its keys
---                                                                                         begin with is a node
---     given-unvalued, given-predictive, given-postfix                                     whether a node is that of a
---                                                                                         key of the set, and
---                                                                                         `extends-other`: which keys
---                                                                                         extend another
---     belongs-fresh, belongs-at                                                           a fresh cursor belongs, and
---                                                                                         one at the node of a key of
---                                                                                         the set; back: `belongs-top`,
---                                                                                         `belongs-under`
---     next_in-at, next_in-later                                                           what the next step gives, and
---                                                                                         `head-valued`,
---                                                                                         `head-unvalued` of a fresh
---                                                                                         cursor
---     says_step-entry, says_step-nothing                                                  a step's answer, by what was
---                                                                                         given, and `given_inside`:
---                                                                                         that is a node
---     keys-longer, keys-some                                                              whether a set has a key
+--     entry-path                 the key of an entry is the path of a node
+--     set_of-rising, set_of-in, set-none  a set rises; its keys; and no set where no key goes; `top-node`: what its
+--                                keys begin with is a node
+--     given-unvalued, given-predictive, given-postfix  whether a node is that of a key of the set, and `extends-other`:
+--                                which keys extend another
+--     belongs-fresh, belongs-at  a fresh cursor belongs, and one at the node of a key of the set; back: `belongs-top`,
+--                                `belongs-under`
+--     next_in-at, next_in-later  what the next step gives, and `head-valued`, `head-unvalued` of a fresh cursor
+--     says_step-entry, says_step-nothing  a step's answer, by what was given, and `given_inside`: that is a node
+--     keys-longer, keys-some     whether a set has a key
 --     start_says-refused, start_says-accepted, step_says-refused, -finished, -bad, -open  what a start and a step say
 -- Assumes nothing.
 use mathlib.Core.Path.{◌≡◌, refl, ap, ◌∙◌}

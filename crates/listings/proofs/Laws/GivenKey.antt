@@ -1,10 +1,9 @@
 -- What `cursor_key` says and writes, by its cases. The key of a node below a top is the end of its path: all of it, or what stands behind the top's.
 --
---     given_key-within                                                           it is no longer than the path
---     given_key-spelled                                                          and so many last bytes of the path are
---                                                                                the key
---     given_key-predictive, given_key-postfix                                    of an entry that a step gave it is the
---                                                                                key, or the key from after the query
+--     given_key-within   it is no longer than the path
+--     given_key-spelled  and so many last bytes of the path are the key
+--     given_key-predictive, given_key-postfix  of an entry that a step gave it is the key, or the key from after the
+--                        query
 --     key-refused, key-finished, key-fresh, key-strange, key-short, key-written  the cases of the call
 -- Assumes nothing.
 use mathlib.Core.Path.{◌≡◌, refl, sym, ap, ◌∙◌}

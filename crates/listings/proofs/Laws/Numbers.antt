@@ -1,16 +1,13 @@
 -- What the code computes by numbers, by its cases; and on an image that some map has it is what the map's definitions say.
 --
---     in_set_by-unvalued, -predictive, -own, -postfix                         a node of a set
---     stands_by-no-top, -fresh, -no-last, -last                               the numbers of a cursor
+--     in_set_by-unvalued, -predictive, -own, -postfix  a node of a set
+--     stands_by-no-top, -fresh, -no-last, -last  the numbers of a cursor
 --     first_given_by-held, -bare, next_given_by-later, -predictive, -postfix  what the next step gives
---     start_by-lost, -far, -near                                              the start
---     stands-path                                                             the numbers stand exactly if the cursor
---                                                                             belongs
---     given-path                                                              of a cursor that belongs the next entry
---                                                                             of its set is given
---     start-path                                                              the start at the node of the query, if
---                                                                             its set has a key
---     given_len-path                                                          the length of a key in a listing
+--     start_by-lost, -far, -near  the start
+--     stands-path                 the numbers stand exactly if the cursor belongs
+--     given-path                  of a cursor that belongs the next entry of its set is given
+--     start-path                  the start at the node of the query, if its set has a key
+--     given_len-path              the length of a key in a listing
 -- Assumes nothing.
 use mathlib.Core.Path.{◌≡◌, refl, sym, ap, ◌∙◌}
 use Prim.Native.Nat.{ℕ, zero, suc, ◌≤◌, ◌<◌}

@@ -1,16 +1,16 @@
 -- The k-th bit of one value from a place on: words are passed by their count, and the one that has it is looked into; beyond the last word all bits are zeros.
 --
---     nothing-behind                              from its end on a sequence has nothing
---     zeros-beyond                                beyond the last word the bits are zeros
---     Passed                                      words are passed
---     passed_first                                none yet
---     passed-next                                 one more
---     passed-short                                the sequence ends in a word that has too few
---     passed-out                                  the words end
---     passed-at                                   the word has it
---     passed-past                                 but behind the sequence's end
+--     nothing-behind  from its end on a sequence has nothing
+--     zeros-beyond    beyond the last word the bits are zeros
+--     Passed          words are passed
+--     passed_first    none yet
+--     passed-next     one more
+--     passed-short    the sequence ends in a word that has too few
+--     passed-out      the words end
+--     passed-at       the word has it
+--     passed-past     but behind the sequence's end
 --     near_none, near-inside, near-at, near-past  the same in the word of the place alone
---     zeros-at, zeros-short, no-zeros             where all bits are zeros
+--     zeros-at, zeros-short, no-zeros  where all bits are zeros
 --
 -- Assumes nothing.
 use Rattle.std.proofs.Common.{◌≡◌, ℕ, zero, suc, ◌+◌, ◌-◌, ◌*◌, ◌/◌, ◌%◌, ◌^◌, ◌<◌, ◌≤◌, min, List, length, sym, refl, ap, ◌∙◌, ⊎_elim, zero-le, le_refl, lt_of_lt_of_le, mod-lt, mod-eq_of_lt, eq-zero-or-pos, lt_of_not-le, arith, pow_pos}

@@ -1,9 +1,8 @@
 -- Ones taken away from the bottom of a word; with the word's own sums `ones_from` leaves those from the j-th on.
 --
---     cleared-none, cleared-next, cleared-zero   by how many are taken away, and of no ones
+--     cleared-none, cleared-next, cleared-zero  by how many are taken away, and of no ones
 --     ones_from-is, start-inside, trailing-most  what the machine computes
---     Taken, taken                               with the word's own sums: the lowest one that is left is the j-th, and
---                                                behind it are the others
+--     Taken, taken  with the word's own sums: the lowest one that is left is the j-th, and behind it are the others
 --
 -- Assumes nothing.
 use Rattle.std.proofs.Common.{◌≡◌, ℕ, zero, suc, ◌+◌, ◌-◌, ◌*◌, ◌/◌, ◌%◌, ◌^◌, ◌<◌, ◌≤◌, sym, refl, ap, ◌∙◌, subst, ap₂, mod-eq_of_lt, add-one, one-add, arith, lit<}

@@ -1,7 +1,7 @@
 -- Answers that tell the same numbers are the same: each answer is read back from what it tells.
 --
 --     said_resumed-one, said_valued-one, said_measured-one  of what is read of a place
---     said_queried-one, said_followed-one, said_gone-one    of its moves
+--     said_queried-one, said_followed-one, said_gone-one  of its moves
 -- Assumes nothing.
 use mathlib.Core.Path.{◌≡◌, refl, sym, ap, ◌∙◌}
 use Prim.Native.Nat.{ℕ}

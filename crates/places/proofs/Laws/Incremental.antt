@@ -1,20 +1,16 @@
 -- What the calls on a place say, by cases, and what that is on the map. Keys and paths go on by labels, so how far a query leads is told by the last of its leading parts
 -- that is a path.
 --
---     path_says-is                                                    what a path is, by whether longer keys begin with
---                                                                     it and whether it is a key; `leaf-valued`: a path
---                                                                     but the root's is one or the other
---     walkable-is                                                     how many labels lead on: so many that these are a
---                                                                     path, and one more is not
---     follow-empty, follow-whole, follow-failed                       what `query_until` says of them
---     goto-none, goto-some                                            what goto says, by whether longer keys begin with
---                                                                     the path, and whether their common prefix is one
---                                                                     of them
---     answer-tells                                                    what the two tests of an answer mean
+--     path_says-is          what a path is, by whether longer keys begin with it and whether it is a key;
+--                           `leaf-valued`: a path but the root's is one or the other
+--     walkable-is           how many labels lead on: so many that these are a path, and one more is not
+--     follow-empty, follow-whole, follow-failed  what `query_until` says of them
+--     goto-none, goto-some  what goto says, by whether longer keys begin with the path, and whether their common prefix
+--                           is one of them
+--     answer-tells          what the two tests of an answer mean
 --     query-moves, query-stays; follow-moves; goto-moves, goto-stays  the path of the place afterwards
---     goto-key-single                                                 from a path with a single child goto moves on, be
---                                                                     the path a key or not
---     promise-refused, promise-strange, promise-kept                  a promise by the tests that come first
+--     goto-key-single       from a path with a single child goto moves on, be the path a key or not
+--     promise-refused, promise-strange, promise-kept  a promise by the tests that come first
 -- Assumes nothing.
 use mathlib.Core.Path.{◌≡◌, refl, sym, ap, ◌∙◌}
 use mathlib.Core.Logic.{inr, ⊎_elim}

@@ -1,16 +1,16 @@
 -- The moves on numbers by their cases, on any slices.
 --
---     number-large, number_small               a node's number as a place has it
---     answer-leaf, answer-inner                what a node is, by its children
---     query-missed, query-found                one label, by the child
---     follow-end, follow-next                  a query, by its first label; `follow-stops`, `follow-on` from behind its
---                                              first labels on
---     ends-empty, ends_some                    at its end, by how many labels it had
---     goto-leaf, goto-several, goto-through    by how many children there are; `goto-key`, `goto-parting` by what is
---                                              held where the glide ends
+--     number-large, number_small  a node's number as a place has it
+--     answer-leaf, answer-inner   what a node is, by its children
+--     query-missed, query-found   one label, by the child
+--     follow-end, follow-next     a query, by its first label; `follow-stops`, `follow-on` from behind its first labels
+--                                 on
+--     ends-empty, ends_some       at its end, by how many labels it had
+--     goto-leaf, goto-several, goto-through  by how many children there are; `goto-key`, `goto-parting` by what is held
+--                                 where the glide ends
 --     children-lost, children-count, only-run  how many there are, and the stand at an only one, by what louds answers
---                                              of the node
---     glide-few                                a glide has no more steps than there are nodes
+--                                 of the node
+--     glide-few                   a glide has no more steps than there are nodes
 -- Assumes nothing.
 use mathlib.Core.Path.{◌≡◌, refl, sym, ap, ◌∙◌}
 use Prim.Native.Nat.{ℕ, zero, suc, ◌+◌, ◌-◌, ◌≤◌, ◌<◌}

@@ -1,8 +1,8 @@
 -- What the readers of a place say, by the tests that come first: the image, the number, and the buffer where the path is written.
 --
---     on_place-refused, on_place-strange, on_place-kept             what any call on a place says
---     resume-is, value-is, prefix_len-is                            the calls that write nothing
---     value-root, prefix_len-root, prefix-root                      "at the root no value, empty, 0"
+--     on_place-refused, on_place-strange, on_place-kept  what any call on a place says
+--     resume-is, value-is, prefix_len-is  the calls that write nothing
+--     value-root, prefix_len-root, prefix-root  "at the root no value, empty, 0"
 --     prefix-refused, prefix-strange, prefix-short, prefix-written  what `prefix` says, and the buffer afterwards
 -- Assumes nothing.
 use mathlib.Core.Path.{◌≡◌, refl, ap, ◌∙◌}

@@ -1,20 +1,18 @@
 -- Laws of histories. Each call on a sound pool answers what the map tells, leaves the map that the map tells, and leaves a sound pool of the same length; so do calls in turn.
 --
---     call-says, call-map, call-sound, call_length    one call
---     run-says, run-map, run_sound                    any calls on a sound pool, also one that was not reset here
+--     call-says, call-map, call-sound, call_length  one call
+--     run-says, run-map, run_sound  any calls on a sound pool, also one that was not reset here
 --     reset-run-sound, reset-run-map, reset-run-says  any calls after an accepted reset: the pool is sound, holds the
---                                                     map of the keys accepted since the last reset, and every answer
---                                                     is told by that map and the capacity
---     reset-run-within                                that map is a catalogue with no more distinct prefixes than the
---                                                     capacity
---     reset-run-count                                 and its use count is the number of that map's distinct nonempty
---                                                     prefixes
---     empty-catalogue                                 the empty map is a catalogue
---     prefixes-insert_all                             inserts take no prefix away
---     pushes-lent                                     the entries of a proper map can be pushed
---     fits-says                                       a nonempty key for which there is room is accepted
---     refill-says, refill-map                         a sound pool counts as reset and then given the keys that it
---                                                     holds: all are accepted, and leave its map
+--                              map of the keys accepted since the last reset, and every answer is told by that map and
+--                              the capacity
+--     reset-run-within         that map is a catalogue with no more distinct prefixes than the capacity
+--     reset-run-count          and its use count is the number of that map's distinct nonempty prefixes
+--     empty-catalogue          the empty map is a catalogue
+--     prefixes-insert_all      inserts take no prefix away
+--     pushes-lent              the entries of a proper map can be pushed
+--     fits-says                a nonempty key for which there is room is accepted
+--     refill-says, refill-map  a sound pool counts as reset and then given the keys that it holds: all are accepted,
+--                              and leave its map
 -- Assumes nothing.
 use Prim.Native.Nat.{ℕ, ◌≤◌, ◌<◌}
 use mathlib.Core.Path.{◌≡◌, refl, sym, ◌∙◌, ap}

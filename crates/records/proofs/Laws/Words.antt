@@ -1,16 +1,16 @@
 -- Laws of the words of a pool: two words of a pool are one place only if they are one word of one record, so a word that is put changes no other.
 --
---     word-beyond                                          beyond the pool's end every word is 0
---     word_at                                              each word of the slice is some record's
---     word-put-same, word-put-other                        what a put leaves of the words
---     length-put                                           it leaves the length
---     last-put-other                                       what it leaves of the last record
---     count-last                                           the records in use are those up to the last
---     node-within, within-node                             the root and the records in use are those up to the last
---     parent-node                                          a parent with a lower number is the root or in use
---     next_last, next-unused                               the record that is taken next is not in use
---     next_fits                                            where there is room for one more it lies within capacity
---     count_none                                           a pool with no last record counts none
+--     word-beyond               beyond the pool's end every word is 0
+--     word_at                   each word of the slice is some record's
+--     word-put-same, word-put-other  what a put leaves of the words
+--     length-put                it leaves the length
+--     last-put-other            what it leaves of the last record
+--     count-last                the records in use are those up to the last
+--     node-within, within-node  the root and the records in use are those up to the last
+--     parent-node               a parent with a lower number is the root or in use
+--     next_last, next-unused    the record that is taken next is not in use
+--     next_fits                 where there is room for one more it lies within capacity
+--     count_none                a pool with no last record counts none
 --     length_taken, word-taken, in-use-taken, count-taken  what taking a record leaves
 -- Assumes nothing.
 use Prim.Native.Nat.{ℕ, ◌+◌, ◌*◌, ◌/◌, ◌%◌, ◌≤◌, ◌<◌}

@@ -1,13 +1,13 @@
 -- The shortest key within a query: on any slices what the walk finds, by cases. On an image that some map has a key that is a prefix of the query is one of its leading parts,
 -- so the first part longer than what was seen that has a value is the answer, and there is none where all of them have none, as past the end of the walk.
 --
---     none_more                                  one part more without a value
---     common-found                               the first with a value is the answer
---     common-none                                and where none has one there is no match
---     shortest-end, shortest-next, -lost         what the walk finds on any slices
---     said-rule                                  on a map's image it is the map's
+--     none_more     one part more without a value
+--     common-found  the first with a value is the answer
+--     common-none   and where none has one there is no match
+--     shortest-end, shortest-next, -lost  what the walk finds on any slices
+--     said-rule     on a map's image it is the map's
 --     common_says-refused, common_says-accepted  `common_prefix`
---     part-is                                    the part handed back is as long as the first call says
+--     part-is       the part handed back is as long as the first call says
 -- Assumes nothing.
 use mathlib.Core.Path.{◌≡◌, refl, sym, ap, ◌∙◌}
 use Prim.Native.Nat.{ℕ, zero, suc, ◌+◌, ◌≤◌, ◌<◌}

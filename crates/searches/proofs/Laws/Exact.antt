@@ -1,16 +1,15 @@
 -- What the calls on one key compute on any slices, by cases; and what they say: of an image that no map has refusal 6, else what the map says.
 -- Setting the value of a key sets that one entry, and the image is then that of the map with the key's value set: the same paths, so the same labels and bits, and one other value.
 --
---     keyed_in-lost, -plain, -held                     the answer of `find`, and back: `keyed-found`, `keyed-missed`
---     found_inside                                     a node with a value has its entry, on any slices
---     found-key                                        on a map's image it is the key's, with its value
---     goes_on-lost, goes_on-ended                      the answer of `goes_on`
---     goes-rule                                        on a map's image the node at a query has children exactly if
---                                                      some key goes on
---     exact_says-refused, exact_says-accepted          `exact_match`
+--     keyed_in-lost, -plain, -held  the answer of `find`, and back: `keyed-found`, `keyed-missed`
+--     found_inside  a node with a value has its entry, on any slices
+--     found-key     on a map's image it is the key's, with its value
+--     goes_on-lost, goes_on-ended  the answer of `goes_on`
+--     goes-rule     on a map's image the node at a query has children exactly if some key goes on
+--     exact_says-refused, exact_says-accepted  `exact_match`
 --     is_prefix_says-refused, is_prefix_says-accepted  `is_prefix`
---     set_values-refused, -absent, -present            the values afterwards
---     set_value-means-insert, set_value-keeps-image    the image then stands for the insert
+--     set_values-refused, -absent, -present  the values afterwards
+--     set_value-means-insert, set_value-keeps-image  the image then stands for the insert
 -- Assumes nothing.
 use mathlib.Core.Path.{◌≡◌, refl, sym, ap, ◌∙◌}
 use mathlib.Core.Logic.{inr}

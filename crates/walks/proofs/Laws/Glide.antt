@@ -1,13 +1,13 @@
 -- A glide on any bits, by its cases; and on an image that some map has. There a node with a value, or with two children, ends what the keys below it have in common;
 -- with one child and no value they all go on through the child. So the only children of nodes without value lead to the end of the common prefix.
 --
---     through-valued, through-parted, through-kid    whether a glide goes on, by the first test that fails
---     Through, through-told                          and where it leads if it does
---     onward-goes, onward_stops                      one step, and back: `onward-to`, `onward-end`
---     glided-starts, glides-end, glides-on           the glide, by the step
---     glide-path                                     on a map's image it ends at the node of the common prefix
---     common-node                                    which is a node's path, and the path begins it
---     GlidedAt, glided-at                            so the end, by its path and the number of steps
+--     through-valued, through-parted, through-kid  whether a glide goes on, by the first test that fails
+--     Through, through-told      and where it leads if it does
+--     onward-goes, onward_stops  one step, and back: `onward-to`, `onward-end`
+--     glided-starts, glides-end, glides-on  the glide, by the step
+--     glide-path                 on a map's image it ends at the node of the common prefix
+--     common-node                which is a node's path, and the path begins it
+--     GlidedAt, glided-at        so the end, by its path and the number of steps
 -- Assumes nothing.
 use mathlib.Core.Path.{◌≡◌, refl, sym, ap, ◌∙◌}
 use mathlib.Core.Logic.{inr, ⊎_elim}

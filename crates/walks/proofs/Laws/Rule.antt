@@ -1,15 +1,14 @@
 -- R-7's rule by its cases.
 --
---     is_node_of-zero, is_node_of-upto                   the test of a number
---     counts_to-low, counts_to-upto                      the test of a child's number
---     matches-large, matches-small                       an entry, by 512
---     is_child_by-root, -low, -high, -entry              a number, by the first test that fails
---     is_child_by-told, is_child_by-is                   and what it is where none does
---     lowest_by-end, -here, -past, -late                 the search, by what is left; behind the last node nothing is
---                                                        found
---     lowest-told                                        what its answer tells
---     child_by-none, child_by-run                        the child of a node, by the node's run
---     walked_from-end, -step, -next, -lost               a walk
+--     is_node_of-zero, is_node_of-upto  the test of a number
+--     counts_to-low, counts_to-upto  the test of a child's number
+--     matches-large, matches-small  an entry, by 512
+--     is_child_by-root, -low, -high, -entry  a number, by the first test that fails
+--     is_child_by-told, is_child_by-is  and what it is where none does
+--     lowest_by-end, -here, -past, -late  the search, by what is left; behind the last node nothing is found
+--     lowest-told  what its answer tells
+--     child_by-none, child_by-run  the child of a node, by the node's run
+--     walked_from-end, -step, -next, -lost  a walk
 --     value_of_node-root, -short, -plain, -large, -held  the value of a node
 -- Assumes nothing.
 use mathlib.Core.Path.{◌≡◌, refl, sym, ap, ◌∙◌}

@@ -88,9 +88,13 @@ offset_bounds-words-v c = omega (arith, c.if-whole-v.false, c.loop-i.invariant.2
 pub bounds-words-v : goal.bounds-words-v
 bounds-words-v c = omega (arith, c.if-whole-v.false, c.loop-i.invariant.1)
 
+-- the place at which the word that is kept was settled
+abbrev row : After-ones_from-rest → After-row_known-1
+row o = (goal.at.overflow_sub-base o).After-row_known-1
+
 -- the next zero, in the word or beyond it
 abbrev Next : After-ones_from-rest → ℕ → Type 0
-Next o to = NextAt (ws (goal.at.overflow_sub-base o).After-row_known-1) (wide (goal.at.overflow_sub-base o).After-row_known-1) (whole (goal.at.overflow_sub-base o).After-row_known-1) o.loop-i.node o.if-zeros-left.w o.if-zeros-left.left o.if-zeros-left.zeros o.if-zeros-left.sums (settled (goal.at.overflow_sub-base o).After-row_known-1) o.ones_from-rest.result o.ones_from-rest.ensures to
+Next o to = NextAt (ws (row o)) (wide (row o)) (whole (row o)) o.loop-i.node o.if-zeros-left.w o.if-zeros-left.left o.if-zeros-left.zeros o.if-zeros-left.sums (settled (row o)) o.ones_from-rest.result o.ones_from-rest.ensures to
 
 module _ (o : After-ones_from-rest) where
   abbrev node : ℕ
@@ -165,9 +169,9 @@ module _ (o : After-ones_from-rest) (low to : ℕ) where
       let a = o.args in
       let l = o.loop-i in
       let z = stands o in
-      let s = settled (goal.at.overflow_sub-base o).After-row_known-1 in
+      let s = settled (row o) in
       ap child_of
-      (child-rule-far (ws (goal.at.overflow_sub-base o).After-row_known-1) (wide (goal.at.overflow_sub-base o).After-row_known-1) (whole (goal.at.overflow_sub-base o).After-row_known-1) l.node o.if-zeros-left.w o.if-zeros-left.left o.if-zeros-left.zeros o.if-zeros-left.sums s o.ones_from-rest.result o.ones_from-rest.ensures a.labels.now a.len (get_or a.query.now l.i 0)
+      (child-rule-far (ws (row o)) (wide (row o)) (whole (row o)) l.node o.if-zeros-left.w o.if-zeros-left.left o.if-zeros-left.zeros o.if-zeros-left.sums s o.ones_from-rest.result o.ones_from-rest.ensures a.labels.now a.len (get_or a.query.now l.i 0)
       from to l.invariant.2 (omega (arith, s.kept, z.few, z.one, z.upto, z.near, z.lowest, first)) next)
       ∙ sym is
       ∙ e

@@ -1,5 +1,4 @@
 -- `pool::path::enter` meets its contract: the record taken is the next one, and the steps are those of `entered`. Assumes nothing.
--- `pool::path::enter` meets its contract: the record taken is the next one, and the steps are those of `entered`. Assumes nothing.
 use Prim.Native.Nat.{◌+◌}
 use mathlib.Core.Path.{◌≡◌, ◌∙◌}
 use native.Mathlib.Omega.{arith}

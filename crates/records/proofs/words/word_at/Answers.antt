@@ -1,5 +1,4 @@
 -- `records::words::word_at` meets its contract: inside the pool it reads the word, and beyond it `word` is 0. Assumes nothing.
--- `records::words::word_at` meets its contract: inside the pool it reads the word, and beyond it `word` is 0. Assumes nothing.
 use mathlib.Core.Path.{refl, sym}
 use Rattle.records.specs.Words.{word}
 use Rattle.records.proofs.Laws.Words.{word-beyond}

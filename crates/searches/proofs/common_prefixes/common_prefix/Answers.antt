@@ -24,7 +24,6 @@ whole c =
 
 pub returns : goal.returns
 returns c =
-    let said = let i = image_in c.args.labels c.args.values c.args.words in
+    let i = image_in c.args.labels c.args.values c.args.words in
     let q = c.args.query.now in
-    ap said_common c.shortest.ensures ∙ said-rule i (whole (goal.at.returns c).Else-not-is_image) q c.args.seen ∙ sym (common_says-accepted i q c.args.seen (tested (goal.at.returns c).Else-not-is_image)) in
-    record { answer = said }
+    record { answer = ap said_common c.shortest.ensures ∙ said-rule i (whole (goal.at.returns c).Else-not-is_image) q c.args.seen ∙ sym (common_says-accepted i q c.args.seen (tested (goal.at.returns c).Else-not-is_image)) }

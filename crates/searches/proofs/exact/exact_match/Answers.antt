@@ -25,16 +25,14 @@ whole c =
 
 pub returns-in_default : goal.returns-in_default
 returns-in_default c =
-    let said = let i = image_in c.args.labels c.args.values c.args.words in
+    let i = image_in c.args.labels c.args.values c.args.words in
     let q = c.args.query.now in
     let absent = keyed-missed i q (sym c.find.ensures ∙ c.in_default.is) in
-    sym (exact_says-accepted i q (tested (goal.at.returns-in_default c).Else-not-is_image) ∙ ap says_value (sym (value-rule i (whole (goal.at.returns-in_default c).Else-not-is_image) q) ∙ absent)) in
-    record { answer = said }
+    record { answer = sym (exact_says-accepted i q (tested (goal.at.returns-in_default c).Else-not-is_image) ∙ ap says_value (sym (value-rule i (whole (goal.at.returns-in_default c).Else-not-is_image) q) ∙ absent)) }
 
 pub returns : goal.returns
 returns c =
-    let said = let i = image_in c.args.labels c.args.values c.args.words in
+    let i = image_in c.args.labels c.args.values c.args.words in
     let q = c.args.query.now in
     let held = (keyed-found i q _ _ (sym c.find.ensures ∙ c.in-At.is)).value in
-    sym (exact_says-accepted i q (tested (goal.at.returns c).Else-not-is_image) ∙ ap says_value (sym (value-rule i (whole (goal.at.returns c).Else-not-is_image) q) ∙ held)) in
-    record { answer = said }
+    record { answer = sym (exact_says-accepted i q (tested (goal.at.returns c).Else-not-is_image) ∙ ap says_value (sym (value-rule i (whole (goal.at.returns c).Else-not-is_image) q) ∙ held)) }

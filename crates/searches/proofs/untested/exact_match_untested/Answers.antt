@@ -18,16 +18,14 @@ tested c = sym c.lengths_fit.ensures ∙ c.if-not-lengths_fit.false
 
 pub returns-in_default : goal.returns-in_default
 returns-in_default c =
-    let said = let i = image_in c.args.labels c.args.values c.args.words in
+    let i = image_in c.args.labels c.args.values c.args.words in
     let q = c.args.query.now in
     let absent = keyed-missed i q (sym c.find.ensures ∙ c.in_default.is) in
-    sym (untested_says-found i q (tested (goal.at.returns-in_default c).Else-not-lengths_fit) ∙ ap says_value absent) in
-    record { answer = said }
+    record { answer = sym (untested_says-found i q (tested (goal.at.returns-in_default c).Else-not-lengths_fit) ∙ ap says_value absent) }
 
 pub returns : goal.returns
 returns c =
-    let said = let i = image_in c.args.labels c.args.values c.args.words in
+    let i = image_in c.args.labels c.args.values c.args.words in
     let q = c.args.query.now in
     let held = (keyed-found i q _ _ (sym c.find.ensures ∙ c.in-At.is)).value in
-    sym (untested_says-found i q (tested (goal.at.returns c).Else-not-lengths_fit) ∙ ap says_value held) in
-    record { answer = said }
+    record { answer = sym (untested_says-found i q (tested (goal.at.returns c).Else-not-lengths_fit) ∙ ap says_value held) }

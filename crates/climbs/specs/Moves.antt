@@ -10,8 +10,7 @@
 --     advance_from   the next perch below a top
 --     moved_at       the perch at the node where a move ended
 -- Assumes nothing.
-use Rattle.std.specs.Prelude.{ℕ, zero, suc, ◌+◌, ◌-◌, Bool, cond, ◌&&◌, eqb, ltb, leb}
-use Rattle.std.proofs.Math.Option.{Option, none, some}
+use Rattle.std.specs.Prelude.{ℕ, zero, suc, ◌+◌, ◌-◌, Bool, cond, ◌&&◌, eqb, ltb, leb, Option, None, Some}
 use Rattle.louds.specs.declared.answers.Spot.{Spot}
 use Rattle.louds.specs.declared.answers.Spot.TheVariants.{At, Missing}
 use Rattle.louds.specs.Select.{zero_from}
@@ -63,5 +62,5 @@ abbrev pub advance_from : (ℕ → ℕ) → ℕ → ℕ → ℕ → Perch → Mo
 advance_from b len last top at = or_moved (first_from b len last at) (climb_from b len last top at)
 
 abbrev pub moved_at : (ℕ → ℕ) → ℕ → Option ℕ → Moved
-moved_at b len none = Nowhere
-moved_at b len (some k) = To (perch_at b len k)
+moved_at b len None = Nowhere
+moved_at b len (Some k) = To (perch_at b len k)

@@ -8,8 +8,7 @@
 --     has_parent     the test of a perch
 --     parent_from    the parent of a perch, as the code finds it: its one lies before the perch's
 -- Assumes nothing.
-use Rattle.std.specs.Prelude.{ℕ, zero, suc, ◌-◌, Bool, cond, ◌&&◌, ltb, leb}
-use Rattle.std.proofs.Math.Option.{Option, none, some}
+use Rattle.std.specs.Prelude.{ℕ, zero, suc, ◌-◌, Bool, cond, ◌&&◌, ltb, leb, Option, None, Some}
 use Rattle.louds.specs.declared.answers.Up.{Up}
 use Rattle.louds.specs.declared.answers.Up.TheVariants.{Node, NoOne}
 use Rattle.louds.specs.Select.{one_at, one_back}
@@ -19,8 +18,8 @@ use Rattle.climbs.specs.declared.perches.Rise.{Rise}
 use Rattle.climbs.specs.declared.perches.Rise.TheVariants.{Parent, NoParent}
 
 abbrev pub below : ℕ → Up → Option ℕ
-below m NoOne = none
-below m (Node k) = cond (leb 1 k && ltb k m) (some k) none
+below m NoOne = None
+below m (Node k) = cond (leb 1 k && ltb k m) (Some k) None
 
 unfoldable pub parent_by : (ℕ → ℕ) → ℕ → ℕ → Option ℕ
 parent_by b len m = below m (parent_of b len m)
@@ -28,8 +27,8 @@ parent_by b len m = below m (parent_of b len m)
 -- how many nodes there are on the way up from where a climb is; the first number bounds the steps
 unfoldable pub climbs : (ℕ → ℕ) → ℕ → ℕ → Option ℕ → ℕ
 climbs b len zero at = 0
-climbs b len (suc left) none = 0
-climbs b len (suc left) (some k) = suc (climbs b len left (parent_by b len k))
+climbs b len (suc left) None = 0
+climbs b len (suc left) (Some k) = suc (climbs b len left (parent_by b len k))
 
 -- a parent's number is below its child's, so the node's own bounds the climb
 unfoldable pub depth_by : (ℕ → ℕ) → ℕ → ℕ → ℕ
@@ -49,5 +48,5 @@ parent_from b len at =
     (Parent (record { node = up; one = or_end at.one (one_back b at.one (at.node - up)) })) NoParent
 
 abbrev pub rise_at : (ℕ → ℕ) → ℕ → Option ℕ → Rise
-rise_at b len none = NoParent
-rise_at b len (some k) = Parent (perch_at b len k)
+rise_at b len None = NoParent
+rise_at b len (Some k) = Parent (perch_at b len k)

@@ -1,8 +1,7 @@
 // The keys that are prefixes of a query, after `src/iter/prefix_iter.rs`: one call for each, with the length that was
 // seen already.
 // A seen length at or past the query's end gives no match, and nothing is added to it.
-ghost use Rattle.std.specs.Prelude.{◌≡◌};
-ghost use Rattle.std.proofs.Math.Option.{some};
+ghost use Rattle.std.specs.Prelude.{◌≡◌, Some};
 ghost use Rattle.image.specs.Meaning.{lent_image};
 ghost use Rattle.walks.specs.Rule.{value_of_node};
 ghost use Rattle.walks.specs.Stands.{held_of};
@@ -29,7 +28,7 @@ fn unseen_value(labels: &[u16], values: &[u32], node: usize, depth: usize, seen:
 // The shortest key, by a walk down the query that stops at the first value past what was seen: the image is not tested.
 fn shortest(labels: &[u16], values: &[u32], words: &[u64], query: &[u8], seen: usize) -> Common
     ensures { result
-        ≡ match_of (shortest_from (lent_image labels values words) seen query.now 0 (some 1)) }
+        ≡ match_of (shortest_from (lent_image labels values words) seen query.now 0 (Some 1)) }
 {
     let len = 2 * labels.len() + 3;
     let mut s = stand_at(words, len, 1);

@@ -10,8 +10,7 @@
 --     down_from      one step down, and `down_along`: all steps of a query
 --     reached_at     the stand at the node where a walk ended
 -- Assumes nothing.
-use Rattle.std.specs.Prelude.{ℕ, ◌+◌, ◌-◌, Bool, cond, ◌&&◌, List, [], ◌∷◌, ltb, leb}
-use Rattle.std.proofs.Math.Option.{Option, none, some}
+use Rattle.std.specs.Prelude.{ℕ, ◌+◌, ◌-◌, Bool, cond, ◌&&◌, List, [], ◌∷◌, ltb, leb, Option, None, Some}
 use Rattle.keymap.specs.Key.{Key}
 use Rattle.louds.specs.Select.{zero_at, zero_from}
 use Rattle.louds.specs.Nodes.{or_end}
@@ -50,16 +49,16 @@ unfoldable pub kid_from : (ℕ → ℕ) → ℕ → ℕ → ℕ → ℕ → Stan
 kid_from b len k next m = record { node = m; zero = or_end len (zero_from b len next (m - k)) }
 
 abbrev pub child_of : Option ℕ → Child
-child_of none = Absent
-child_of (some m) = Node m
+child_of None = Absent
+child_of (Some m) = Node m
 
 abbrev pub held_of : Option ℕ → Held
-held_of none = NoValue
-held_of (some v) = Value v
+held_of None = NoValue
+held_of (Some v) = Value v
 
 abbrev pub to_kid : (ℕ → ℕ) → ℕ → ℕ → ℕ → Option ℕ → Reached
-to_kid b len k next none = NoPath
-to_kid b len k next (some m) = To (kid_from b len k next m)
+to_kid b len k next None = NoPath
+to_kid b len k next (Some m) = To (kid_from b len k next m)
 
 unfoldable pub down_from : List ℕ → (ℕ → ℕ) → ℕ → Stand → ℕ → Reached
 down_from ls b len s a =
@@ -76,5 +75,5 @@ down_along ls b len [] at = at
 down_along ls b len (a ∷ q) at = down_along ls b len q (then_down ls b len a at)
 
 abbrev pub reached_at : (ℕ → ℕ) → ℕ → Option ℕ → Reached
-reached_at b len none = NoPath
-reached_at b len (some k) = To (stand_at b len k)
+reached_at b len None = NoPath
+reached_at b len (Some k) = To (stand_at b len k)

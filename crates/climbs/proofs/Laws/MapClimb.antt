@@ -13,7 +13,7 @@ use native.Mathlib.Nat.{lt_of_not-le}
 use native.Mathlib.Decide.{dec_le}
 use native.Mathlib.Omega.{arith}
 use mathlib.Core.List.{[], ◌∷◌, ◌++◌}
-use mathlib.Core.Option.{Option, none, some}
+use Rattle.std.specs.Prelude.{Option, None, Some}
 use lib.ListN.{length, length-append}
 use Rattle.keymap.specs.Members.{In}
 use Rattle.keymap.specs.Key.{Key, PrefixOf, last_byte}
@@ -109,7 +109,7 @@ path-short m c k n = path-below k m c k (omega arith) n
 -- ---- climbs by the rule
 
 module _ (i : Image) (h : MapImage i) where
-  pub upper-path : (k : ℕ) → IsNode (image_map i) k → 2 ≤ k → parent_by (bit i.words) (bits_for (entries i)) k ≡ some (node_of (image_map i) (upper (path_of (image_map i) k)))
+  pub upper-path : (k : ℕ) → IsNode (image_map i) k → 2 ≤ k → parent_by (bit i.words) (bits_for (entries i)) k ≡ Some (node_of (image_map i) (upper (path_of (image_map i) k)))
   upper-path k n l =
       let m : Map = image_map i in
       let x : Key = path_of m k in
@@ -129,9 +129,9 @@ module _ (i : Image) (h : MapImage i) where
       m : Map
       m = image_map i
 
-      top : k < 2 → (o : Option ℕ) → parent_by (bit i.words) (bits_for (entries i)) k ≡ o → parent_by (bit i.words) (bits_for (entries i)) k ≡ none
-      top one none e = e
-      top one (some j) e = absurd (omega (arith, one, parent_by-told (bit i.words) (bits_for (entries i)) k j e))
+      top : k < 2 → (o : Option ℕ) → parent_by (bit i.words) (bits_for (entries i)) k ≡ o → parent_by (bit i.words) (bits_for (entries i)) k ≡ None
+      top one None e = e
+      top one (Some j) e = absurd (omega (arith, one, parent_by-told (bit i.words) (bits_for (entries i)) k j e))
 
       go : Dec (2 ≤ k)
           → ((up : ℕ) → up ≤ bound → IsNode m up → depth_by (bit i.words) (bits_for (entries i)) up ≡ length (path_of m up))

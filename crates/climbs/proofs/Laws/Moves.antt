@@ -15,7 +15,7 @@ use native.Mathlib.Nat.{lt_of_not-le}
 use native.Mathlib.Decide.{dec_le}
 use native.Mathlib.Omega.{arith}
 use mathlib.Core.Bool.{Bool, true, false, true≢false, cond, ◌&&◌, and-false}
-use mathlib.Core.Option.{Option, none, some}
+use Rattle.std.specs.Prelude.{Option, None, Some}
 use lib.Dec.{eqb, ltb}
 use borrow.Author.Tests.{lt-ltb, le-ltb, le-leb, lt-leb, ltb-true, eq-eqb, ne_eqb}
 use Rattle.keymap.specs.Bits.{sum_below}
@@ -217,10 +217,10 @@ module _ (b : ℕ → ℕ) (small : (i : ℕ) → b i ≤ 1) (len last : ℕ) wh
   first-rule k = go (one_at b len k) refl
     where
       -- where the child's number is not above the node's it does not count
-      bare : ((z : ℕ) → Stands (gap b) len k z → z + 2 - k ≤ k) → first_by b len last k ≡ none
+      bare : ((z : ℕ) → Stands (gap b) len k z → z + 2 - k ≤ k) → first_by b len last k ≡ None
       bare low = at_zero (zero_at b len k) refl
         where
-          at_zero : (t : Spot) → zero_at b len k ≡ t → first_by b len last k ≡ none
+          at_zero : (t : Spot) → zero_at b len k ≡ t → first_by b len last k ≡ None
           at_zero Missing e = first-lost b small len last k e
           at_zero (At z) e =
               first-at b small len last k z e
@@ -238,7 +238,7 @@ module _ (b : ℕ → ℕ) (small : (i : ℕ) → b i ≤ 1) (len last : ℕ) wh
               ∙ ap (zero_at b len) (omega (arith, told, s.rank, ones-zeros b small q))
 
           child : (z : ℕ) → zero_at b len k ≡ At z → (t : Bool) → (one_behind b len z && counts_to last k (z + 2 - k)) ≡ t
-              → behind_zero b len last k (At z) ≡ moved_at b len (cond (one_behind b len z && counts_to last k (z + 2 - k)) (some (z + 2 - k)) none)
+              → behind_zero b len last k (At z) ≡ moved_at b len (cond (one_behind b len z && counts_to last k (z + 2 - k)) (Some (z + 2 - k)) None)
           child z e true g =
               let place = child-knows k z e (both (one_behind b len z) (counts_to last k (z + 2 - k)) g).0 in
               rw g (λ x. To (record { node = z + 2 - k; one = sym place x }))
@@ -274,7 +274,7 @@ module _ (b : ℕ → ℕ) (small : (i : ℕ) → b i ≤ 1) (len last : ℕ) wh
   beside-rule k = go (one_at b len k) refl
     where
       there : (q : ℕ) → one_at b len k ≡ At q → (t : Bool) → (ltb k last && one_behind b len q) ≡ t
-          → beside_from b len last (record { node = k; one = q }) ≡ moved_at b len (cond (ltb k last && one_behind b len q) (some (k + 1)) none)
+          → beside_from b len last (record { node = k; one = q }) ≡ moved_at b len (cond (ltb k last && one_behind b len q) (Some (k + 1)) None)
       there q e true g =
           let s = rank-kth b small len k q e in
           let (inside, marked) = one_behind-told b len q (both (ltb k last) (one_behind b len q) g).1 in
@@ -293,23 +293,23 @@ module _ (b : ℕ → ℕ) (small : (i : ℕ) → b i ≤ 1) (len last : ℕ) wh
           let place : or_end len (one_at b len k) ≡ len = ap (or_end len) e in
           rw (one_behind-far b len (or_end len (one_at b len k)) (omega (arith, place)), and-false (ltb k last)) (sym (ap (moved_at b len) (beside-lost b len last k e)))
 
-  moved-choice : (t : Bool) (x y : Option ℕ) → cond t Nowhere (or_moved (moved_at b len x) (moved_at b len y)) ≡ moved_at b len (cond t none (or_else x y))
+  moved-choice : (t : Bool) (x y : Option ℕ) → cond t Nowhere (or_moved (moved_at b len x) (moved_at b len y)) ≡ moved_at b len (cond t None (or_else x y))
   moved-choice true x y = refl
-  moved-choice false none y = refl
-  moved-choice false (some k) y = refl
+  moved-choice false None y = refl
+  moved-choice false (Some k) y = refl
 
   climbed-rule : (f top : ℕ) (o : Option ℕ) → climbed_rise b len last top f (rise_at b len o) ≡ moved_at b len (climbed_from b len last top f o)
   unfolding climbed_rise climbed_from
   climbed-rule zero top o = refl
-  climbed-rule (suc f) top none = refl
-  climbed-rule (suc f) top (some k) =
+  climbed-rule (suc f) top None = refl
+  climbed-rule (suc f) top (Some k) =
       ap₂ (λ (m : Moved) (r : Rise). cond (eqb k top) Nowhere (or_moved m (climbed_rise b len last top f r))) (beside-rule k) (parent-rule b small len k)
       ∙ ap (λ (m : Moved). cond (eqb k top) Nowhere (or_moved (moved_at b len (beside_by b len last k)) m)) (climbed-rule f top (parent_by b len k))
       ∙ moved-choice (eqb k top) (beside_by b len last k) (climbed_from b len last top f (parent_by b len k))
 
   climb-rule : (top k : ℕ) → climb_from b len last top (perch_at b len k) ≡ moved_at b len (climb_by b len last top k)
   unfolding climb_from climb_by
-  climb-rule top k = climbed-rule (suc k) top (some k)
+  climb-rule top k = climbed-rule (suc k) top (Some k)
 
   pub advance-rule : (top k : ℕ) → advance_from b len last top (perch_at b len k) ≡ moved_at b len (advance_by b len last top k)
   unfolding advance_by
@@ -321,7 +321,7 @@ module _ (b : ℕ → ℕ) (small : (i : ℕ) → b i ≤ 1) (len last : ℕ) wh
 
 -- the next node, as a perch that knows its one
 pub record MovedTold (b : ℕ → ℕ) (len : ℕ) (o : Option ℕ) (t : Perch) : Type 0 where
-  pub node : o ≡ some t.node
+  pub node : o ≡ Some t.node
   pub knows : t ≡ perch_at b len t.node
 
 module _ (b : ℕ → ℕ) (small : (i : ℕ) → b i ≤ 1) (len last top : ℕ) (at : Perch) (known : at ≡ perch_at b len at.node) (r : Moved) (e : r ≡ advance_from b len last top at) where
@@ -332,14 +332,14 @@ module _ (b : ℕ → ℕ) (small : (i : ℕ) → b i ≤ 1) (len last top : ℕ
   moved_to t f = go (advance_by b len last top at.node) (moved-is ∙ f)
     where
       go : (o : Option ℕ) → moved_at b len o ≡ To t → MovedTold b len o t
-      go none g = let z : ◌≡◌ {A = ℕ} 0 1 = cc in absurd (omega arith)
-      go (some k) g =
+      go None g = let z : ◌≡◌ {A = ℕ} 0 1 = cc in absurd (omega arith)
+      go (Some k) g =
           let same : perch_at b len k ≡ t = cc in
           rw (← same) (record { node = refl; knows = refl })
 
-  pub moved-lost : r ≡ Nowhere → advance_by b len last top at.node ≡ none
+  pub moved-lost : r ≡ Nowhere → advance_by b len last top at.node ≡ None
   moved-lost f = go (advance_by b len last top at.node) (moved-is ∙ f)
     where
-      go : (o : Option ℕ) → moved_at b len o ≡ Nowhere → o ≡ none
-      go none g = refl
-      go (some k) g = let z : ◌≡◌ {A = ℕ} 0 1 = cc in absurd (omega arith)
+      go : (o : Option ℕ) → moved_at b len o ≡ Nowhere → o ≡ None
+      go None g = refl
+      go (Some k) g = let z : ◌≡◌ {A = ℕ} 0 1 = cc in absurd (omega arith)

@@ -14,7 +14,8 @@ use native.Mathlib.Nat.{lt_of_not-le}
 use native.Mathlib.Decide.{dec_le}
 use native.Mathlib.Omega.{arith}
 use mathlib.Core.Bool.{Bool, true, false, true≢false}
-use mathlib.Core.Option.{Option, none, some, none-ne-some}
+use Rattle.std.specs.Prelude.{Option, None, Some}
+use Rattle.std.proofs.lemmas.Option.{none-some}
 use lib.Dec.{ltb}
 use borrow.Author.Tests.{lt-ltb, le-ltb, le-leb, lt-leb, ltb-true}
 use Rattle.louds.specs.declared.answers.Spot.{Spot}
@@ -91,35 +92,35 @@ module _ (b : ℕ → ℕ) (len : ℕ) (at : Perch) where
 -- ---- the rule
 
 module _ (b : ℕ → ℕ) (len : ℕ) where
-  pub parent_by-lost : (m : ℕ) → parent_of b len m ≡ NoOne → parent_by b len m ≡ none
+  pub parent_by-lost : (m : ℕ) → parent_of b len m ≡ NoOne → parent_by b len m ≡ None
   unfolding parent_by
   parent_by-lost m e = ap (below m) e
 
-  pub parent_by-node : (m k : ℕ) → parent_of b len m ≡ Node k → 1 ≤ k → k < m → parent_by b len m ≡ some k
+  pub parent_by-node : (m k : ℕ) → parent_of b len m ≡ Node k → 1 ≤ k → k < m → parent_by b len m ≡ Some k
   unfolding parent_by
   parent_by-node m k e l u = ap (below m) e ∙ rw (le-leb 1 k l, lt-ltb k m u)
 
-  pub parent_by-zero : (m : ℕ) → parent_of b len m ≡ Node 0 → parent_by b len m ≡ none
+  pub parent_by-zero : (m : ℕ) → parent_of b len m ≡ Node 0 → parent_by b len m ≡ None
   unfolding parent_by
   parent_by-zero m e = ap (below m) e
 
-  pub parent_by-high : (m k : ℕ) → parent_of b len m ≡ Node k → 1 ≤ k → m ≤ k → parent_by b len m ≡ none
+  pub parent_by-high : (m k : ℕ) → parent_of b len m ≡ Node k → 1 ≤ k → m ≤ k → parent_by b len m ≡ None
   unfolding parent_by
   parent_by-high m k e l u = ap (below m) e ∙ rw (le-leb 1 k l, le-ltb k m u)
 
-  pub parent_by-told : (m k : ℕ) → parent_by b len m ≡ some k → (1 ≤ k) × (k < m)
+  pub parent_by-told : (m k : ℕ) → parent_by b len m ≡ Some k → (1 ≤ k) × (k < m)
   parent_by-told m k e = go (parent_of b len m) refl
     where
       high : (j : ℕ) → parent_of b len m ≡ Node j → 1 ≤ j → Dec (m ≤ j) → (1 ≤ k) × (k < m)
-      high j f l (yes u) = absurd (none-ne-some k (sym (parent_by-high m j f l u) ∙ e))
+      high j f l (yes u) = absurd (none-some k (sym (parent_by-high m j f l u) ∙ e))
       high j f l (no u) =
-          let g : ◌≡◌ {A = Option ℕ} (some j) (some k) = sym (parent_by-node m j f l (lt_of_not-le u)) ∙ e in
+          let g : ◌≡◌ {A = Option ℕ} (Some j) (Some k) = sym (parent_by-node m j f l (lt_of_not-le u)) ∙ e in
           let same : j ≡ k = cc in
           (omega (arith, same, l), omega (arith, same, lt_of_not-le u))
 
       go : (u : Up) → parent_of b len m ≡ u → (1 ≤ k) × (k < m)
-      go NoOne f = absurd (none-ne-some k (sym (parent_by-lost m f) ∙ e))
-      go (Node zero) f = absurd (none-ne-some k (sym (parent_by-zero m f) ∙ e))
+      go NoOne f = absurd (none-some k (sym (parent_by-lost m f) ∙ e))
+      go (Node zero) f = absurd (none-some k (sym (parent_by-zero m f) ∙ e))
       go (Node (suc j)) f = high (suc j) f (omega arith) (dec_le m (suc j))
 
 -- ---- a perch that knows its one
@@ -169,13 +170,13 @@ module _ (b : ℕ → ℕ) (small : (i : ℕ) → b i ≤ 1) (len : ℕ) where
           up : ℕ
           up = q - (m - 1)
 
-          high : m ≤ q → Dec (m ≤ up) → parent_by b len m ≡ none
+          high : m ≤ q → Dec (m ≤ up) → parent_by b len m ≡ None
           high l (yes u) = parent_by-high b len m up (parent-at b small len m q e) (omega (arith, l, s)) u
           high l (no u) =
               let t : has_parent len m q ≡ true = has_parent-last len m q s.inside (λ z. omega (arith, z, s)) l ∙ lt-ltb up m (lt_of_not-le u) in
               absurd (true≢false (sym t ∙ f))
 
-          nowhere : Dec (m ≤ q) → parent_by b len m ≡ none
+          nowhere : Dec (m ≤ q) → parent_by b len m ≡ None
           nowhere (yes l) = high l (dec_le m up)
           nowhere (no l) = parent_by-zero b len m (parent-at b small len m q e ∙ ap Node (omega (arith, lt_of_not-le l, s, ones-zeros b small q)))
 
@@ -194,45 +195,45 @@ module _ (b : ℕ → ℕ) (small : (i : ℕ) → b i ≤ 1) (len : ℕ) where
 
 -- the bound is enough
 abbrev Within : ℕ → Option ℕ → Type 0
-Within n none = Unit {0}
-Within n (some k) = (1 ≤ k) × (k ≤ n)
+Within n None = Unit {0}
+Within n (Some k) = (1 ≤ k) × (k ≤ n)
 
 module _ (b : ℕ → ℕ) (len : ℕ) where
   parent-within : (k n : ℕ) → k ≤ suc n → (o : Option ℕ) → parent_by b len k ≡ o → Within n o
-  parent-within k n l none e = tt
-  parent-within k n l (some j) e = let (low, high) = parent_by-told b len k j e in (low, omega (arith, high))
+  parent-within k n l None e = tt
+  parent-within k n l (Some j) e = let (low, high) = parent_by-told b len k j e in (low, omega (arith, high))
 
   climbs-enough : (f g : ℕ) (o : Option ℕ) → Within f o → Within g o → climbs b len f o ≡ climbs b len g o
   unfolding climbs
   climbs-enough zero zero o v w = refl
-  climbs-enough zero (suc g) none v w = refl
-  climbs-enough zero (suc g) (some k) v w = absurd (omega (arith, v))
-  climbs-enough (suc f) zero none v w = refl
-  climbs-enough (suc f) zero (some k) v w = absurd (omega (arith, w))
-  climbs-enough (suc f) (suc g) none v w = refl
-  climbs-enough (suc f) (suc g) (some k) v w =
+  climbs-enough zero (suc g) None v w = refl
+  climbs-enough zero (suc g) (Some k) v w = absurd (omega (arith, v))
+  climbs-enough (suc f) zero None v w = refl
+  climbs-enough (suc f) zero (Some k) v w = absurd (omega (arith, w))
+  climbs-enough (suc f) (suc g) None v w = refl
+  climbs-enough (suc f) (suc g) (Some k) v w =
       ap suc (climbs-enough f g (parent_by b len k) (parent-within k f v.1 (parent_by b len k) refl) (parent-within k g w.1 (parent_by b len k) refl))
 
-  climbs-none : (f : ℕ) → climbs b len f none ≡ 0
+  climbs-none : (f : ℕ) → climbs b len f None ≡ 0
   unfolding climbs
   climbs-none zero = refl
   climbs-none (suc f) = refl
 
-  climbs-some : (f k : ℕ) → climbs b len (suc f) (some k) ≡ suc (climbs b len f (parent_by b len k))
+  climbs-some : (f k : ℕ) → climbs b len (suc f) (Some k) ≡ suc (climbs b len f (parent_by b len k))
   unfolding climbs
   climbs-some f k = refl
 
-  pub depth-root : (m : ℕ) → parent_by b len m ≡ none → depth_by b len m ≡ 0
+  pub depth-root : (m : ℕ) → parent_by b len m ≡ None → depth_by b len m ≡ 0
   unfolding depth_by
   depth-root m e = ap (climbs b len m) e ∙ climbs-none m
 
-  pub depth-next : (m k : ℕ) → parent_by b len m ≡ some k → depth_by b len m ≡ suc (depth_by b len k)
+  pub depth-next : (m k : ℕ) → parent_by b len m ≡ Some k → depth_by b len m ≡ suc (depth_by b len k)
   unfolding depth_by
   depth-next m k e =
       let (low, high) = parent_by-told b len m k e in
       let back : suc (m - 1) ≡ m = omega (arith, high) in
       ap (climbs b len m) e
-      ∙ ap (λ (f : ℕ). climbs b len f (some k)) (sym back)
+      ∙ ap (λ (f : ℕ). climbs b len f (Some k)) (sym back)
       ∙ climbs-some (m - 1) k
       ∙ ap suc (climbs-enough (m - 1) k (parent_by b len k) (parent-within k (m - 1) (omega (arith, high)) (parent_by b len k) refl) (parent-within k k (omega arith) (parent_by b len k) refl))
 
@@ -240,7 +241,7 @@ module _ (b : ℕ → ℕ) (len : ℕ) where
 
 -- the parent of node m, as a perch that knows its one
 pub record RiseTold (b : ℕ → ℕ) (len m : ℕ) (t : Perch) : Type 0 where
-  pub node : parent_by b len m ≡ some t.node
+  pub node : parent_by b len m ≡ Some t.node
   pub knows : t ≡ perch_at b len t.node
   pub lower : t.node < m
 
@@ -252,14 +253,14 @@ module _ (b : ℕ → ℕ) (small : (i : ℕ) → b i ≤ 1) (len : ℕ) (at : P
   rise-to t f = go (parent_by b len at.node) refl (rise-is ∙ f)
     where
       go : (o : Option ℕ) → parent_by b len at.node ≡ o → rise_at b len o ≡ Parent t → RiseTold b len at.node t
-      go none p g = let z : ◌≡◌ {A = ℕ} 0 1 = cc in absurd (omega arith)
-      go (some k) p g =
+      go None p g = let z : ◌≡◌ {A = ℕ} 0 1 = cc in absurd (omega arith)
+      go (Some k) p g =
           let same : perch_at b len k ≡ t = cc in
           rw (← same) (record { node = p; knows = refl; lower = omega (arith, parent_by-told b len at.node k p) })
 
-  pub rise-lost : r ≡ NoParent → parent_by b len at.node ≡ none
+  pub rise-lost : r ≡ NoParent → parent_by b len at.node ≡ None
   rise-lost f = go (parent_by b len at.node) refl (rise-is ∙ f)
     where
-      go : (o : Option ℕ) → parent_by b len at.node ≡ o → rise_at b len o ≡ NoParent → parent_by b len at.node ≡ none
-      go none p g = p
-      go (some k) p g = let z : ◌≡◌ {A = ℕ} 0 1 = cc in absurd (omega arith)
+      go : (o : Option ℕ) → parent_by b len at.node ≡ o → rise_at b len o ≡ NoParent → parent_by b len at.node ≡ None
+      go None p g = p
+      go (Some k) p g = let z : ◌≡◌ {A = ℕ} 0 1 = cc in absurd (omega arith)

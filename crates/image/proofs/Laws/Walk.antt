@@ -8,7 +8,7 @@ use mathlib.Core.Path.{◌≡◌, sym, ap, ap₂, ◌∙◌}
 use Prim.Native.Nat.{ℕ, suc, ◌+◌, ◌≤◌, ◌<◌}
 use native.Mathlib.Omega.{arith}
 use mathlib.Core.List.{◌∷◌}
-use mathlib.Core.Option.{Option}
+use Rattle.std.specs.Prelude.{Option}
 use lib.ListN.{get_or}
 use Rattle.keymap.specs.Label.{label_entry, value_word}
 use Rattle.keymap.specs.Bits.{sum_below}

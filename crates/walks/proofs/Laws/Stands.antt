@@ -18,7 +18,7 @@ use native.Mathlib.Numerals.{add-one}
 use native.Mathlib.Omega.{arith}
 use mathlib.Core.Bool.{Bool, true, false, true≢false}
 use mathlib.Core.List.{List, [], ◌∷◌}
-use mathlib.Core.Option.{Option, none, some}
+use Rattle.std.specs.Prelude.{Option, None, Some}
 use lib.Dec.{ltb, leb}
 use lib.ListN.{length, get_or, drop}
 use lib.Seq.{drop-cons}
@@ -251,8 +251,8 @@ module _ (b : ℕ → ℕ) (small : (i : ℕ) → b i ≤ 1) (len : ℕ) where
   pub along-rule : (ls : List ℕ) (q : Key) (o : Option ℕ) → down_along ls b len q (reached_at b len o) ≡ reached_at b len (walked_from ls b len q o)
   unfolding down_along walked_from
   along-rule ls [] o = refl
-  along-rule ls (a ∷ q) none = along-rule ls q none
-  along-rule ls (a ∷ q) (some k) = ap (down_along ls b len q) (down_rule ls k a) ∙ along-rule ls q (child_by ls b len k a)
+  along-rule ls (a ∷ q) None = along-rule ls q None
+  along-rule ls (a ∷ q) (Some k) = ap (down_along ls b len q) (down_rule ls k a) ∙ along-rule ls q (child_by ls b len k a)
 
 -- ---- a walk along a query, from behind its first j bytes on
 
@@ -284,41 +284,41 @@ module _ (ls : List ℕ) (b : ℕ → ℕ) (len : ℕ) where
 
 -- what an answer tells
 pub record ReachedTold (b : ℕ → ℕ) (len : ℕ) (o : Option ℕ) (t : Stand) : Type 0 where
-  pub node : o ≡ some t.node
+  pub node : o ≡ Some t.node
   pub knows : t ≡ stand_at b len t.node
 
 pub reached_at-to : (b : ℕ → ℕ) (len : ℕ) (o : Option ℕ) (t : Stand) → reached_at b len o ≡ To t → ReachedTold b len o t
-reached_at-to b len none t e = let z : ◌≡◌ {A = ℕ} 0 1 = cc in absurd (omega arith)
-reached_at-to b len (some k) t e =
+reached_at-to b len None t e = let z : ◌≡◌ {A = ℕ} 0 1 = cc in absurd (omega arith)
+reached_at-to b len (Some k) t e =
     let same : stand_at b len k ≡ t = cc in
     rw (← same) (record { node = refl; knows = refl })
 
-pub reached_at-lost : (b : ℕ → ℕ) (len : ℕ) (o : Option ℕ) → reached_at b len o ≡ NoPath → o ≡ none
-reached_at-lost b len none e = refl
-reached_at-lost b len (some k) e = let z : ◌≡◌ {A = ℕ} 0 1 = cc in absurd (omega arith)
+pub reached_at-lost : (b : ℕ → ℕ) (len : ℕ) (o : Option ℕ) → reached_at b len o ≡ NoPath → o ≡ None
+reached_at-lost b len None e = refl
+reached_at-lost b len (Some k) e = let z : ◌≡◌ {A = ℕ} 0 1 = cc in absurd (omega arith)
 
-pub child_of-node : (o : Option ℕ) (m : ℕ) → child_of o ≡ Node m → o ≡ some m
-child_of-node none m e = let z : ◌≡◌ {A = ℕ} 0 1 = cc in absurd (omega arith)
-child_of-node (some k) m e = let z : k ≡ m = cc in ap some z
+pub child_of-node : (o : Option ℕ) (m : ℕ) → child_of o ≡ Node m → o ≡ Some m
+child_of-node None m e = let z : ◌≡◌ {A = ℕ} 0 1 = cc in absurd (omega arith)
+child_of-node (Some k) m e = let z : k ≡ m = cc in ap Some z
 
-pub child_of-absent : (o : Option ℕ) → child_of o ≡ Absent → o ≡ none
-child_of-absent none e = refl
-child_of-absent (some k) e = let z : ◌≡◌ {A = ℕ} 0 1 = cc in absurd (omega arith)
+pub child_of-absent : (o : Option ℕ) → child_of o ≡ Absent → o ≡ None
+child_of-absent None e = refl
+child_of-absent (Some k) e = let z : ◌≡◌ {A = ℕ} 0 1 = cc in absurd (omega arith)
 
 module _ (ls : List ℕ) (b : ℕ → ℕ) (len : ℕ) (s : Stand) (a : ℕ) where
-  pub down_from-there : (m : ℕ) → lowest_by ls s.node (kids_from b len s).count (kids_from b len s).first a ≡ some m
+  pub down_from-there : (m : ℕ) → lowest_by ls s.node (kids_from b len s).count (kids_from b len s).first a ≡ Some m
       → down_from ls b len s a ≡ To (kid_from b len s.node (kids_from b len s).next m)
   unfolding down_from
   down_from-there m e = ap (to_kid b len s.node (kids_from b len s).next) e
 
-  pub down_from-absent : lowest_by ls s.node (kids_from b len s).count (kids_from b len s).first a ≡ none → down_from ls b len s a ≡ NoPath
+  pub down_from-absent : lowest_by ls s.node (kids_from b len s).count (kids_from b len s).first a ≡ None → down_from ls b len s a ≡ NoPath
   unfolding down_from
   down_from-absent e = ap (to_kid b len s.node (kids_from b len s).next) e
 
-pub held_of-value : (o : Option ℕ) (v : ℕ) → held_of o ≡ Value v → o ≡ some v
-held_of-value none v e = let z : ◌≡◌ {A = ℕ} 0 1 = cc in absurd (omega arith)
-held_of-value (some k) v e = let z : k ≡ v = cc in ap some z
+pub held_of-value : (o : Option ℕ) (v : ℕ) → held_of o ≡ Value v → o ≡ Some v
+held_of-value None v e = let z : ◌≡◌ {A = ℕ} 0 1 = cc in absurd (omega arith)
+held_of-value (Some k) v e = let z : k ≡ v = cc in ap Some z
 
-pub held_of-none : (o : Option ℕ) → held_of o ≡ NoValue → o ≡ none
-held_of-none none e = refl
-held_of-none (some k) e = let z : ◌≡◌ {A = ℕ} 0 1 = cc in absurd (omega arith)
+pub held_of-none : (o : Option ℕ) → held_of o ≡ NoValue → o ≡ None
+held_of-none None e = refl
+held_of-none (Some k) e = let z : ◌≡◌ {A = ℕ} 0 1 = cc in absurd (omega arith)

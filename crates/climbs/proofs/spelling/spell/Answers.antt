@@ -1,7 +1,7 @@
 use mathlib.Core.Path.{◌≡◌, refl, sym, ap, ◌∙◌}
 use Prim.Native.Nat.{◌-◌}
 use native.Mathlib.Omega.{arith}
-use mathlib.Core.Option.{some}
+use Rattle.std.specs.Prelude.{Some}
 use mathlib.Core.Bool.{true}
 use lib.ListN.{length, set, length-set}
 use Rattle.keymap.specs.Bits.{bit}
@@ -29,7 +29,7 @@ loop-left-init c =
       refl,
       omega arith,
       spelled_by-room a.labels.now b a.len a.node a.count a.out.now (omega arith)
-          ∙ ap (λ k. spelled_from a.labels.now b a.len a.count (some k) a.out.now) (sym own),
+          ∙ ap (λ k. spelled_from a.labels.now b a.len a.count (Some k) a.out.now) (sym own),
     )
 
 pub shape_of-out-then-not-has_entry : goal.shape_of-out-then-not-has_entry
@@ -124,5 +124,5 @@ returns c =
     let done : l.left ≡ 0 = omega arith in
     sym
     (l.invariant.3
-    ∙ ap (λ n. spelled_from a.labels.now (bit a.words.now) a.len n (some l.at.node) l.out) done
-    ∙ spelled_from-done a.labels.now (bit a.words.now) a.len (some l.at.node) l.out)
+    ∙ ap (λ n. spelled_from a.labels.now (bit a.words.now) a.len n (Some l.at.node) l.out) done
+    ∙ spelled_from-done a.labels.now (bit a.words.now) a.len (Some l.at.node) l.out)

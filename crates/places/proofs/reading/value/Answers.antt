@@ -2,7 +2,7 @@
 use mathlib.Core.Path.{◌≡◌, sym, ap, ◌∙◌}
 use mathlib.Core.Bool.{Bool, true}
 use Prim.Native.Nat.{ℕ}
-use mathlib.Core.Option.{Option}
+use Rattle.std.specs.Prelude.{Option}
 use lib.ListN.{length}
 use Rattle.keymap.specs.Answers.{says_value}
 use Rattle.keymap.specs.Paths.{is_node}

@@ -1,6 +1,6 @@
 use mathlib.Core.Path.{◌≡◌, sym, ap, ◌∙◌}
 use mathlib.Core.List.{[]}
-use mathlib.Core.Option.{Option, some}
+use Rattle.std.specs.Prelude.{Option, Some}
 use Prim.Native.Nat.{ℕ, ◌+◌}
 use native.Mathlib.Omega.{arith}
 use lib.ListN.{length, get_or, drop}
@@ -24,7 +24,7 @@ loop-depth-init c =
     let a = c.args in
     let told = c.stand_at-s.ensures in
     let one : c.stand_at-s.result.node ≡ 1 = ap (λ (s : Stand). s.node) told in
-    (omega arith, told ∙ ap (stand_at (bit a.words.now) (bits_for (length a.labels.now))) (sym one), ap (λ k. shortest_from (image_in c.args.labels c.args.values c.args.words) a.seen a.query.now 0 (some k)) (sym one))
+    (omega arith, told ∙ ap (stand_at (bit a.words.now) (bits_for (length a.labels.now))) (sym one), ap (λ k. shortest_from (image_in c.args.labels c.args.values c.args.words) a.seen a.query.now 0 (Some k)) (sym one))
 
 -- what a step answers, by the rule
 step : (c : In-loop-depth) (r t : Reached)
@@ -53,7 +53,7 @@ returns-in_default c =
     let l = c.loop-depth in
     let a = c.args in
     let lost = reached_at-lost (bit a.words.now) (bits_for (length a.labels.now)) _ (step (goal.at.returns-in_default c).In-loop-depth _ _ c.down.ensures c.in_default.is) in
-    sym (ap match_of (l.invariant.2 ∙ shortest-lost (image_in c.args.labels c.args.values c.args.words) a.seen a.query.now l.depth (some l.s.node) (omega arith) lost))
+    sym (ap match_of (l.invariant.2 ∙ shortest-lost (image_in c.args.labels c.args.values c.args.words) a.seen a.query.now l.depth (Some l.s.node) (omega arith) lost))
 
 -- where the step led, and what is found from there on
 there : (c : In-To)
@@ -69,13 +69,13 @@ onward : (c : In-To)
     → let l = c.loop-depth in
     let a = c.args in
     let node = c.in-To.t.node in
-    shortest_from (image_in c.args.labels c.args.values c.args.words) a.seen a.query.now 0 (some 1)
+    shortest_from (image_in c.args.labels c.args.values c.args.words) a.seen a.query.now 0 (Some 1)
     ≡ or_further (l.depth + 1) (unless_seen a.seen (l.depth + 1) (value_of_node a.labels.now a.values.now node))
-    (shortest_from (image_in c.args.labels c.args.values c.args.words) a.seen (drop (l.depth + 1) a.query.now) (l.depth + 1) (some node))
+    (shortest_from (image_in c.args.labels c.args.values c.args.words) a.seen (drop (l.depth + 1) a.query.now) (l.depth + 1) (Some node))
 onward c =
     let l = c.loop-depth in
     let a = c.args in
-    l.invariant.2 ∙ shortest-next (image_in c.args.labels c.args.values c.args.words) a.seen a.query.now l.depth (some l.s.node) (some c.in-To.t.node) (omega arith) (there c).node
+    l.invariant.2 ∙ shortest-next (image_in c.args.labels c.args.values c.args.words) a.seen a.query.now l.depth (Some l.s.node) (Some c.in-To.t.node) (omega arith) (there c).node
 
 pub returns-in-Value : goal.returns-in-Value
 returns-in-Value c =
@@ -83,7 +83,7 @@ returns-in-Value c =
     let a = c.args in
     let node = c.in-To.t.node in
     let held = held_of-value (unless_seen a.seen (l.depth + 1) (value_of_node a.labels.now a.values.now node)) _ (sym c.unseen_value.ensures ∙ c.in-Value.is) in
-    let further = shortest_from (image_in c.args.labels c.args.values c.args.words) a.seen (drop (l.depth + 1) a.query.now) (l.depth + 1) (some node) in
+    let further = shortest_from (image_in c.args.labels c.args.values c.args.words) a.seen (drop (l.depth + 1) a.query.now) (l.depth + 1) (Some node) in
     sym (ap match_of (onward (goal.at.returns-in-Value c).In-To ∙ ap (λ (o : Option ℕ). or_further (l.depth + 1) o further) held))
 
 pub loop-depth-preserved : goal.loop-depth-preserved
@@ -92,7 +92,7 @@ loop-depth-preserved c =
     let a = c.args in
     let node = c.in-To.t.node in
     let held = held_of-none (unless_seen a.seen (l.depth + 1) (value_of_node a.labels.now a.values.now node)) (sym c.unseen_value.ensures ∙ c.in-NoValue.is) in
-    let further = shortest_from (image_in c.args.labels c.args.values c.args.words) a.seen (drop (l.depth + 1) a.query.now) (l.depth + 1) (some node) in
+    let further = shortest_from (image_in c.args.labels c.args.values c.args.words) a.seen (drop (l.depth + 1) a.query.now) (l.depth + 1) (Some node) in
     (omega arith, (there (goal.at.loop-depth-preserved c).In-To).knows, onward (goal.at.loop-depth-preserved c).In-To ∙ ap (λ (o : Option ℕ). or_further (l.depth + 1) o further) held)
 
 pub returns : goal.returns
@@ -104,5 +104,5 @@ returns c =
     sym
     (ap match_of
     (l.invariant.2
-    ∙ ap (λ r. shortest_from (image_in c.args.labels c.args.values c.args.words) a.seen r l.depth (some l.s.node)) rest
-    ∙ shortest-end (image_in c.args.labels c.args.values c.args.words) a.seen l.depth (some l.s.node)))
+    ∙ ap (λ r. shortest_from (image_in c.args.labels c.args.values c.args.words) a.seen r l.depth (Some l.s.node)) rest
+    ∙ shortest-end (image_in c.args.labels c.args.values c.args.words) a.seen l.depth (Some l.s.node)))

@@ -1,6 +1,6 @@
 -- `walks::glide::onward` meets its contract: each return is a case of the definition's test. Assumes nothing.
 use mathlib.Core.Path.{◌≡◌, sym, ap, ◌∙◌}
-use mathlib.Core.Option.{none}
+use Rattle.std.specs.Prelude.{None}
 use lib.ListN.{length}
 use Rattle.keymap.specs.Bits.{bit}
 use Rattle.walks.specs.declared.answers.Kids.{Kids}
@@ -22,7 +22,7 @@ returns-in_default c =
 
 -- past the test the node has no value
 bare : (c : In-NoValue)
-    → value_of_node c.args.labels.now c.args.values.now c.args.s.node ≡ none
+    → value_of_node c.args.labels.now c.args.values.now c.args.s.node ≡ None
 bare c =
     let a = c.args in
     held_of-none (value_of_node a.labels.now a.values.now a.s.node) (sym c.value_at.ensures ∙ c.in-NoValue.is)

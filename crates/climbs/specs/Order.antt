@@ -15,12 +15,9 @@ use Rattle.std.specs.Prelude.{ℕ, zero, suc, ◌+◌, Bool, cond, ◌&&◌, Lis
 use Rattle.keymap.specs.Key.{PrefixOf}
 use Rattle.keymap.specs.Map.{Entry, Map}
 use Rattle.keymap.specs.Paths.{IsNode, path_of, node_of}
-use Rattle.louds.specs.declared.answers.Spot.{Spot}
-use Rattle.louds.specs.declared.answers.Spot.TheVariants.{At, Missing}
 use Rattle.louds.specs.declared.answers.Children.{Children}
-use Rattle.louds.specs.declared.answers.Children.TheVariants.{Run, NoNode}
 use Rattle.louds.specs.Select.{one_at}
-use Rattle.louds.specs.Nodes.{children_of}
+use Rattle.louds.specs.Nodes.{Run, children_of}
 use Rattle.walks.specs.Rule.{counts_to, value_of_node}
 use Rattle.climbs.specs.Perches.{parent_by}
 use Rattle.climbs.specs.declared.order.Given.{Given}
@@ -31,8 +28,8 @@ abbrev pub or_else : {A : Type 0} → Option A → Option A → Option A
 or_else (Some k) o = Some k
 or_else None o = o
 
-abbrev pub first_of : ℕ → ℕ → Children → Option ℕ
-first_of last k NoNode = None
+abbrev pub first_of : ℕ → ℕ → Option Children → Option ℕ
+first_of last k None = None
 first_of last k (Run first count) = cond (ltb 0 count && counts_to last k first) (Some first) None
 
 unfoldable pub first_by : (ℕ → ℕ) → ℕ → ℕ → ℕ → Option ℕ
@@ -42,9 +39,9 @@ unfoldable pub one_behind : (ℕ → ℕ) → ℕ → ℕ → Bool
 one_behind b len p = ltb (p + 1) len && eqb (b (p + 1)) 1
 
 -- the ones of siblings stand together, and their numbers run on
-abbrev pub beside_of : (ℕ → ℕ) → ℕ → ℕ → ℕ → Spot → Option ℕ
-beside_of b len last k Missing = None
-beside_of b len last k (At p) = cond (ltb k last && one_behind b len p) (Some (k + 1)) None
+abbrev pub beside_of : (ℕ → ℕ) → ℕ → ℕ → ℕ → (Option ℕ) → Option ℕ
+beside_of b len last k None = None
+beside_of b len last k (Some p) = cond (ltb k last && one_behind b len p) (Some (k + 1)) None
 
 unfoldable pub beside_by : (ℕ → ℕ) → ℕ → ℕ → ℕ → Option ℕ
 beside_by b len last k = beside_of b len last k (one_at b len k)

@@ -12,7 +12,7 @@
 -- Assumes nothing.
 use Rattle.std.specs.Prelude.{ℕ, zero, suc, Bool, true, cond, ◌&&◌, Option, None, Some}
 use mathlib.Core.List.{List, ◌∷◌}
-use Rattle.keymap.specs.Members.{first_of}
+use Rattle.keymap.specs.Members.{head_of}
 use Rattle.keymap.specs.Key.{Key}
 use Rattle.keymap.specs.Answers.{given}
 use Rattle.keymap.specs.Refusals.{refuses, BadPlace}
@@ -51,7 +51,7 @@ start_says kind i q =
     on_image i (0 ∷ said_cursor (cond (nonempty (set_of m kind q)) (Open kind (node_of m q) 0) (Finished kind)))
 
 abbrev pub next_in : Map → Map → ℕ → Option Entry
-next_in m set zero = first_of set
+next_in m set zero = head_of set
 next_in m set (suc k) = least_above (path_of m (suc k)) set
 
 -- the end, which comes with a finished cursor

@@ -13,7 +13,7 @@ use Rattle.keymap.specs.Key.{Key}
 use Rattle.keymap.specs.Bits.{bit}
 use Rattle.keymap.specs.Image.{Image, bits_for}
 use Rattle.louds.specs.declared.answers.Children.{Children}
-use Rattle.louds.specs.declared.answers.Children.TheVariants.{Run, NoNode}
+use Rattle.louds.specs.Nodes.{Run}
 use Rattle.louds.specs.Nodes.{children_of}
 use Rattle.image.specs.Accept.{entries, node_entry, node_value}
 use Rattle.image.specs.AcceptTest.{lengths_fit}
@@ -24,8 +24,8 @@ unfoldable pub counted : ℕ → ℕ → ℕ → ℕ → List ℕ
 counted n k zero m = []
 counted n k (suc left) m = cond (counts n k m) (m ∷ counted n k left (m + 1)) (counted n k left (m + 1))
 
-abbrev pub counted_among : ℕ → ℕ → Children → List ℕ
-counted_among n k NoNode = []
+abbrev pub counted_among : ℕ → ℕ → Option Children → List ℕ
+counted_among n k None = []
 counted_among n k (Run first count) = counted n k count first
 
 -- the counted children of the node where a walk is
@@ -47,8 +47,8 @@ looked_at ls k (suc left) m a =
     cond (counts (length ls) k m) (m ∷ cond (is_child_by ls k m a) [] (looked_at ls k left (m + 1) a))
     (looked_at ls k left (m + 1) a)
 
-abbrev pub looked_among : List ℕ → ℕ → Children → ℕ → List ℕ
-looked_among ls k NoNode a = []
+abbrev pub looked_among : List ℕ → ℕ → Option Children → ℕ → List ℕ
+looked_among ls k None a = []
 looked_among ls k (Run first count) a = looked_at ls k count first a
 
 abbrev pub looked_over : List ℕ → (ℕ → ℕ) → ℕ → ℕ → Option ℕ → List ℕ

@@ -15,7 +15,7 @@ use Rattle.keymap.specs.Label.{mark, label_in}
 use Rattle.keymap.specs.Bits.{bit}
 use Rattle.keymap.specs.Image.{Image, bits_for}
 use Rattle.louds.specs.declared.answers.Children.{Children}
-use Rattle.louds.specs.declared.answers.Children.TheVariants.{Run, NoNode}
+use Rattle.louds.specs.Nodes.{Run}
 use Rattle.louds.specs.Nodes.{children_of}
 use Rattle.image.specs.Accept.{entries}
 
@@ -44,8 +44,8 @@ unfoldable pub lowest_by : List ℕ → ℕ → ℕ → ℕ → ℕ → Option �
 lowest_by ls k zero m a = None
 lowest_by ls k (suc left) m a = cond (is_child_by ls k m a) (Some m) (lowest_by ls k left (m + 1) a)
 
-abbrev pub child_among : List ℕ → ℕ → Children → ℕ → Option ℕ
-child_among ls k NoNode a = None
+abbrev pub child_among : List ℕ → ℕ → Option Children → ℕ → Option ℕ
+child_among ls k None a = None
 child_among ls k (Run first count) a = lowest_by ls k count first a
 
 -- "children of k are the ones after the k-th zero up to the next zero or the end, none if that zero is missing"

@@ -13,7 +13,7 @@ use native.Mathlib.Omega.{arith}
 use mathlib.Core.Bool.{Bool, true, false}
 use mathlib.Core.List.{[], ◌∷◌}
 use Rattle.std.specs.Prelude.{Option, None, Some}
-use Rattle.keymap.specs.Members.{In, here, first_of}
+use Rattle.keymap.specs.Members.{In, here, head_of}
 use Rattle.keymap.specs.Key.{Key, Below, is_below}
 use Rattle.keymap.specs.Map.{Entry, Map, Before, Rising}
 use Rattle.keymap.specs.Queries.{keep, least_above}
@@ -122,12 +122,12 @@ above-next (d ∷ n) r k e rest h = go (is_below k d.0) refl (above-next n r.1 k
         let member : In e n = ((keep-iff (λ (x : Entry). is_below k x.0) e n).0 (rw g (here refl))).0 in
         rw (not-below e.0 d.0 (below-asym d.0 e.0 (before-all d.0 n r.0 r.1 e member))) (ih g)
 
-head_tail : (n : Map) (e : Entry) → first_of n ≡ Some e → (rest : Map) × (n ≡ e ∷ rest)
+head_tail : (n : Map) (e : Entry) → head_of n ≡ Some e → (rest : Map) × (n ≡ e ∷ rest)
 head_tail [] e h = let z : ◌≡◌ {A = ℕ} 0 1 = cc in absurd (omega arith)
 head_tail (d ∷ n) e h = let same : d ≡ e = cc in (n, λ i. same i ∷ n)
 
 -- the next entry is the first of the rest
-pub next-head : (m : Map) (c : Cursor) → next_entry m c ≡ first_of (rest_of m c)
+pub next-head : (m : Map) (c : Cursor) → next_entry m c ≡ head_of (rest_of m c)
 unfolding least_above
 next-head m (Open kind top zero) = refl
 next-head m (Open kind top (suc k)) = refl

@@ -27,7 +27,6 @@ use Rattle.keymap.specs.Decode.{image_map}
 use Rattle.keymap.proofs.Laws.Begins.{prefix-iff, prefix_trans}
 use Rattle.keymap.proofs.Laws.Steps.{upper-last}
 use Rattle.keymap.proofs.Laws.Paths.{path_of-root, path_of-in, path_of-node_of, path_of-longer, node_of-node, node_of-path_of, nodes-iff}
-use Rattle.louds.specs.declared.answers.Up.TheVariants.{Node}
 use Rattle.louds.specs.Nodes.{parent_of}
 use Rattle.louds.proofs.Laws.MapNodes.{map_bits, map_length, parent-node}
 use Rattle.image.specs.Accept.{entries}
@@ -116,7 +115,7 @@ module _ (i : Image) (h : MapImage i) where
       let u = upper-node m h.catalogue k n l in
       let e : x ≡ upper x ++ (last_byte x ∷ []) = upper-last x u.longer in
       let own : node_of m (upper x ++ (last_byte x ∷ [])) ≡ k = ap (node_of m) (sym e) ∙ node_of-path_of m h.catalogue.rising k n in
-      let up : parent_of (bit i.words) (bits_for (entries i)) k ≡ Node (node_of m (upper x)) =
+      let up : parent_of (bit i.words) (bits_for (entries i)) k ≡ Some (node_of m (upper x)) =
       rw (bits_are i h, bits_length-is i h)
       (ap (parent_of (map_bits m) (map_length m)) (sym own)
       ∙ parent-node m h.catalogue (upper x) (last_byte x) u.inside (subst (λ (y : Key). SomeBegins y m) e u.begins)) in

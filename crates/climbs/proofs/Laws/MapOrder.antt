@@ -26,10 +26,8 @@ use Rattle.keymap.proofs.Laws.Bits.{bit-small}
 use Rattle.keymap.proofs.Laws.Begins.{prefix-iff, prefix_refl, prefix_trans, prefix-chain, prefix-proper}
 use Rattle.keymap.proofs.Laws.Paths.{path_of-in, path_of-one, path_of-longer, node_of-node, node_of-path_of, children_in-ordered}
 use Rattle.keymap.proofs.Laws.Steps.{upper-last, next_in-index, last_in-index, next_in-first, last_in-none, next-child, last-child, next-sibling, last-sibling, paths_below-iff, least_above-valued, least_above-unvalued, least_above-last, nodes_above-falls}
-use Rattle.louds.specs.declared.answers.Spot.TheVariants.{At}
-use Rattle.louds.specs.declared.answers.Children.TheVariants.{Run}
 use Rattle.louds.specs.Select.{one_at}
-use Rattle.louds.specs.Nodes.{children_of}
+use Rattle.louds.specs.Nodes.{Run, children_of}
 use Rattle.louds.proofs.Laws.Rank.{ones-zeros}
 use Rattle.louds.proofs.Laws.Select.{rank-kth}
 use Rattle.louds.proofs.Laws.Nodes.{parent-told, parent-of-child, sibling-behind}
@@ -228,7 +226,7 @@ module _ (i : Image) (h : MapImage i) where
       (λ inside marked. omega (arith, back (omega (arith, inside, at), ap b at ∙ marked), s.number, size))
       (dec_le (suc (suc s.place)) (length (children_in m x)))
     where
-      go : (s : Placed m h.catalogue k) → path_of m (node_of m (upper (path_of m k))) ≡ upper (path_of m k) → (q : ℕ) → one_at b len k ≡ At q → node_of m (upper (path_of m k)) + k ≡ q + 1
+      go : (s : Placed m h.catalogue k) → path_of m (node_of m (upper (path_of m k))) ≡ upper (path_of m k) → (q : ℕ) → one_at b len k ≡ Some q → node_of m (upper (path_of m k)) + k ≡ q + 1
           → (suc s.place < length (children_in m (upper (path_of m k))) → (q + 1 < len) × (b (q + 1) ≡ 1))
           → (q + 1 < len → b (q + 1) ≡ 1 → suc s.place < length (children_in m (upper (path_of m k))))
           → Dec (suc s.place < length (children_in m (upper (path_of m k))))

@@ -19,7 +19,7 @@ use mathlib.Core.List.{List, [], ◌∷◌, ◌++◌, map}
 use Rattle.std.specs.Prelude.{None, Some}
 use Rattle.std.proofs.lemmas.Option.{none-some, same_Some}
 use lib.ListN.{length, get_or, length-append}
-use Rattle.keymap.specs.Members.{In, here, there, Ordered, Distinct, first_of}
+use Rattle.keymap.specs.Members.{In, here, there, Ordered, Distinct, head_of}
 
 module _ {A B : Type 0} (f : A → B) where
   in-map-from : {y : B} (xs : List A) → In y (map f xs) → (x : A) × In x xs × (y ≡ f x)
@@ -38,16 +38,16 @@ module _ {A B : Type 0} (f : A → B) where
   in_map y xs = (in-map-from xs, λ h. Memᴰ.cast h.2 (in-map-to h.1))
 
 module _ {A : Type 0} where
-  pub head_in : {x : A} (xs : List A) → first_of xs ≡ Some x → In x xs
+  pub head_in : {x : A} (xs : List A) → head_of xs ≡ Some x → In x xs
   head_in {x} [] e = absurd (none-some x e)
   head_in {x} (y ∷ xs) e = here (sym (same_Some y x e))
 
-  pub head-none : (xs : List A) → first_of xs ≡ None → xs ≡ []
+  pub head-none : (xs : List A) → head_of xs ≡ None → xs ≡ []
   head-none [] e = refl
   head-none (x ∷ xs) e = absurd (none-some x (sym e))
 
   -- the head stands before all others
-  pub head-before : (R : A → A → Type 0) {x : A} (xs : List A) → Ordered R xs → first_of xs ≡ Some x → (y : A) → In y xs → (y ≡ x) ⊎ R x y
+  pub head-before : (R : A → A → Type 0) {x : A} (xs : List A) → Ordered R xs → head_of xs ≡ Some x → (y : A) → In y xs → (y ≡ x) ⊎ R x y
   head-before R {x} [] o e y i = absurd (Memᴰ.not-nil i)
   head-before R {x} (z ∷ xs) o e y i =
       let s : z ≡ x = same_Some z x e in

@@ -27,7 +27,7 @@ use Rattle.std.proofs.lemmas.Option.{none-some, same_Some}
 use lib.ListN.{length}
 use lib.Dec.{ltb}
 use borrow.Author.Tests.{ltb-true, lt-ltb}
-use Rattle.keymap.specs.Members.{In, here, there, Ordered, first_of}
+use Rattle.keymap.specs.Members.{In, here, there, Ordered, head_of}
 use Rattle.keymap.specs.Key.{Key, pick, compare_keys, Below, is_below, begins_with, PrefixOf, extends}
 use Rattle.keymap.specs.Map.{Entry, Map, Under, Rising, lookup}
 use Rattle.keymap.specs.Queries.{keep, nonempty, SomeBegins, beginning, longer, is_prefix_in, LongestCommon, common_of_all, unless_empty, longest_prefix_in, ShortestWithin, common_prefix_in, NextAfter, least_above}
@@ -293,13 +293,13 @@ first_one test m r d e (j, u, g) (i, t, h) = go (key_order d.0 e.0)
     go (KeyOrder.same p q) = entry-one m r d e j i p
     go (KeyOrder.above p q) = absurd (g e i t q)
 
-first_some : (test : Entry → Bool) (m : Map) → Rising m → (e : Entry) → (first_of (keep test m) ≡ Some e) ↔ First test m e
-first_some test m r e = (from e, λ h. to h (first_of (keep test m)) refl)
+first_some : (test : Entry → Bool) (m : Map) → Rising m → (e : Entry) → (head_of (keep test m) ≡ Some e) ↔ First test m e
+first_some test m r e = (from e, λ h. to h (head_of (keep test m)) refl)
   where
     kept : Ordered Under (keep test m)
     kept = (rising-iff (keep test m)).0 (keep-rising test m r)
 
-    from : (c : Entry) → first_of (keep test m) ≡ Some c → First test m c
+    from : (c : Entry) → head_of (keep test m) ≡ Some c → First test m c
     from c h =
         let (i, t) = (keep-iff test c m).0 (head_in (keep test m) h) in (
           i,
@@ -309,12 +309,12 @@ first_some test m r e = (from e, λ h. to h (first_of (keep test m)) refl)
               (head-before Under (keep test m) kept h d ((keep-iff test d m).1 (j, s))),
         )
 
-    to : First test m e → (o : Option Entry) → first_of (keep test m) ≡ o → first_of (keep test m) ≡ Some e
+    to : First test m e → (o : Option Entry) → head_of (keep test m) ≡ o → head_of (keep test m) ≡ Some e
     to f None s = absurd ((keep-none test m).0 (head-none (keep test m) s) e f.0 f.1)
     to f (Some d) s = s ∙ ap Some (first_one test m r d e (from d s) f)
 
-first-none : (test : Entry → Bool) (m : Map) → (first_of (keep test m) ≡ None) ↔ ((e : Entry) → In e m → ¬ (test e ≡ true))
-first-none test m = (λ h. (keep-none test m).0 (head-none _ h), λ h. ap first_of ((keep-none test m).1 h))
+first-none : (test : Entry → Bool) (m : Map) → (head_of (keep test m) ≡ None) ↔ ((e : Entry) → In e m → ¬ (test e ≡ true))
+first-none test m = (λ h. (keep-none test m).0 (head-none _ h), λ h. ap head_of ((keep-none test m).1 h))
 
 fits_iff : (q : Key) (seen : ℕ) (k : Key) → ((begins_with k q && ltb seen (length k)) ≡ true) ↔ (PrefixOf k q × (seen < length k))
 fits_iff q seen k =
@@ -403,7 +403,7 @@ above-behind xs e ys r c i b = go (Memᴰ.append_cases xs i)
     go (inr j) = ⊎_elim (λ s. absurd (below_irrefl e.0 (rw s at b))) (λ h. h) (Memᴰ.cases_cons j)
 
 -- from the head on each step gives the entry behind the last one given, and none behind the last
-pub least_above-next : (xs : Map) (e : Entry) (ys : Map) → Rising (xs ++ (e ∷ ys)) → least_above e.0 (xs ++ (e ∷ ys)) ≡ first_of ys
+pub least_above-next : (xs : Map) (e : Entry) (ys : Map) → Rising (xs ++ (e ∷ ys)) → least_above e.0 (xs ++ (e ∷ ys)) ≡ head_of ys
 least_above-next xs e [] r = (least_above-none e.0 (xs ++ (e ∷ []))).1 (λ c i b. Memᴰ.not-nil (above-behind xs e [] r c i b))
 least_above-next xs e (d ∷ ys) r =
     (least_above-some e.0 (xs ++ (e ∷ d ∷ ys)) r d).1

@@ -20,7 +20,7 @@ use native.Mathlib.Omega.{arith}
 use mathlib.Core.List.{List, [], ◌∷◌, ◌++◌, append_assoc, append-nil, cons-ne-nil}
 use Rattle.std.specs.Prelude.{Option, None, Some}
 use lib.ListN.{length, get_or, length-append}
-use Rattle.keymap.specs.Members.{In, Ordered, first_of}
+use Rattle.keymap.specs.Members.{In, Ordered, head_of}
 use Rattle.keymap.specs.Key.{Key, compare_keys, Below, is_below, begins_with, PrefixOf, last_byte}
 use Rattle.keymap.specs.Map.{Entry, Map, Rising, lookup}
 use Rattle.keymap.specs.Queries.{keep, SomeBegins, beginning, longer, least_above, NextAfter}
@@ -281,13 +281,13 @@ module _ (m : Map) (rises : Rising m) (p : Key) where
           (record { entry = beyond e f.entry f.above; above = f.above; least = λ d j b. f.least d ((longer-beginning p m d).0 j).0 b })
 
   -- and the postfix listing begins with what stands above the top
-  pub head-longer : first_of (longer p m) ≡ least_above p (beginning p m)
+  pub head-longer : head_of (longer p m) ≡ least_above p (beginning p m)
   unfolding least_above
   head-longer =
       let all : keep (λ (e : Entry). is_below p e.0) (longer p m) ≡ longer p m =
       keep_all (λ (e : Entry). is_below p e.0) (longer p m)
       (λ e i. let (j, h, l) = (longer-iff p m e).0 i in (above-iff p e.0).1 (prefix-below p e.0 h l)) in
-      ap first_of (sym all) ∙ least_above-longer p (prefix_refl p)
+      ap head_of (sym all) ∙ least_above-longer p (prefix_refl p)
 
 -- ---- how many are left
 

@@ -23,7 +23,7 @@ use Rattle.std.specs.Prelude.{Option, None, Some}
 use lib.ListN.{length, get_or}
 use lib.Dec.{ltb}
 use borrow.Author.Tests.{ltb-true, lt-ltb}
-use Rattle.keymap.specs.Members.{In, here, first_of}
+use Rattle.keymap.specs.Members.{In, here, head_of}
 use Rattle.keymap.specs.Answers.{given}
 use Rattle.keymap.specs.Refusals.{refuses, NotAnImage, BadPlace}
 use Rattle.keymap.specs.Key.{Key, begins_with, PrefixOf, extends}
@@ -163,13 +163,13 @@ module _ (m : Map) (kind : Kind) (top last : ℕ) where
 -- ---- what the next step gives
 
 module _ (m : Map) (c : Catalogue m) (top : ℕ) (inside : IsNode m top) where
-  pub head-valued : (v : ℕ) → lookup (path_of m top) m ≡ Some v → given_by m (first_of (beginning (path_of m top) m)) ≡ gives.Entry top v
+  pub head-valued : (v : ℕ) → lookup (path_of m top) m ≡ Some v → given_by m (head_of (beginning (path_of m top) m)) ≡ gives.Entry top v
   head-valued v e =
-      ap (λ (n : Map). given_by m (first_of n)) (beginning-present (path_of m top) v m c.rising e)
+      ap (λ (n : Map). given_by m (head_of n)) (beginning-present (path_of m top) v m c.rising e)
       ∙ ap (λ (k : ℕ). gives.Entry k v) (node_of-path_of m c.rising top inside)
 
-  pub head-unvalued : lookup (path_of m top) m ≡ None → first_of (beginning (path_of m top) m) ≡ least_above (path_of m top) (beginning (path_of m top) m)
-  head-unvalued e = ap first_of (beginning-absent (path_of m top) m c.rising e) ∙ head-longer m c.rising (path_of m top)
+  pub head-unvalued : lookup (path_of m top) m ≡ None → head_of (beginning (path_of m top) m) ≡ least_above (path_of m top) (beginning (path_of m top) m)
+  head-unvalued e = ap head_of (beginning-absent (path_of m top) m c.rising e) ∙ head-longer m c.rising (path_of m top)
 
   pub under_top : UnderTop m top top
   under_top = record { top-inside = inside; inside = inside; begins = prefix_refl (path_of m top) }

@@ -15,7 +15,7 @@ use native.Mathlib.Decide.{ℕ_discrete}
 use native.Mathlib.Omega.{arith}
 use mathlib.Core.Bool.{Bool, true, false, cond, ◌&&◌}
 use mathlib.Core.List.{List}
-use Rattle.keymap.specs.Members.{first_of}
+use Rattle.keymap.specs.Members.{head_of}
 use Rattle.std.specs.Prelude.{Option, None, Some}
 use lib.ListN.{length}
 use borrow.Author.Tests.{lt-ltb, le-ltb, eq-eqb, ne_eqb}
@@ -206,14 +206,14 @@ module _ (i : Image) (h : MapImage i) where
       go true e = later ((is_node-iff m top).0 e) last
 
   first-path : (top : ℕ) → IsNode (image_map i) top
-      → given_of (first_given_by i.labels i.values (bit i.words) (bits_for (entries i)) top) ≡ given_by (image_map i) (first_of (beginning (path_of (image_map i) top) (image_map i)))
+      → given_of (first_given_by i.labels i.values (bit i.words) (bits_for (entries i)) top) ≡ given_by (image_map i) (head_of (beginning (path_of (image_map i) top) (image_map i)))
   first-path top n = go (lookup (path_of m top) m) refl
     where
       m : Map
       m = image_map i
 
       go : (o : Option ℕ) → lookup (path_of m top) m ≡ o
-          → given_of (first_given_by i.labels i.values (bit i.words) (bits_for (entries i)) top) ≡ given_by m (first_of (beginning (path_of m top) m))
+          → given_of (first_given_by i.labels i.values (bit i.words) (bits_for (entries i)) top) ≡ given_by m (head_of (beginning (path_of m top) m))
       go (Some v) e =
           ap given_of (first_given_by-held i.labels i.values (bit i.words) (bits_for (entries i)) top v (node-value i h top n ∙ e))
           ∙ sym (head-valued m h.catalogue top n v e)

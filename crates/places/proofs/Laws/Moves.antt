@@ -26,7 +26,7 @@ use Rattle.keymap.specs.Key.{Key}
 use Rattle.keymap.specs.Bits.{bit}
 use Rattle.keymap.specs.Image.{Image, bits_for}
 use Rattle.keymap.proofs.Laws.Bits.{bit-small}
-use Rattle.louds.specs.declared.answers.Children.TheVariants.{Run, NoNode}
+use Rattle.louds.specs.Nodes.{Run}
 use Rattle.louds.specs.Nodes.{children_of}
 use Rattle.image.specs.Accept.{entries}
 use Rattle.walks.specs.declared.stands.Stand.{Stand}
@@ -106,7 +106,7 @@ module _ (i : Image) where
 
 -- the children of node k, as louds answers them
 module _ (i : Image) (k : ℕ) where
-  pub children-lost : children_of (bit i.words) (bits_for (entries i)) k ≡ NoNode → count_from i (stand_in i k) ≡ 0
+  pub children-lost : children_of (bit i.words) (bits_for (entries i)) k ≡ None → count_from i (stand_in i k) ≡ 0
   children-lost e = ap (λ (x : Kids). x.count) (kids-lost (bit i.words) (bit-small i.words) (bits_for (entries i)) k e)
 
   module _ (f c : ℕ) (run : children_of (bit i.words) (bits_for (entries i)) k ≡ Run f c) where

@@ -16,7 +16,7 @@ use Rattle.keymap.specs.Bits.{bit, sum_below, words_for}
 use Rattle.keymap.specs.Image.{Image, bits_for}
 use Rattle.louds.specs.Rank.{gap}
 use Rattle.louds.specs.Select.{kth}
-use Rattle.louds.specs.Nodes.{or_end, run_from, children_of}
+use Rattle.louds.specs.Nodes.{run_from, children_of}
 use Rattle.image.specs.Accept.{node_entry, node_value}
 use Rattle.image.specs.AcceptTest.{lengths_fit}
 use Rattle.walks.specs.Rule.{matches, is_child_by, lowest_by, child_by, walked_from, value_of_node, node_by, found_by}
@@ -75,11 +75,11 @@ same_bits (suc (suc (suc (suc (suc (suc (suc (suc (suc p))))))))) l = absurd (om
 
 -- what the two queries meet, where they end, and what is found there
 met-b : (met image_a b ≡ 2 ∷ 3 ∷ []) × (node_by image_a b ≡ Some 3) × (found_by image_a b ≡ Some 3)
-unfolding met_from counted value_of_node walked_from child_by lowest_by is_child_by matches children_of run_from kth or_end gap bit sum_below
+unfolding met_from counted value_of_node walked_from child_by lowest_by is_child_by matches children_of run_from kth gap bit sum_below
 met-b = (refl, refl, refl)
 
 met-a : (met image_a a ≡ 2 ∷ 3 ∷ []) × (node_by image_a a ≡ Some 2) × (found_by image_a a ≡ None)
-unfolding met_from counted value_of_node walked_from child_by lowest_by is_child_by matches children_of run_from kth or_end gap bit sum_below
+unfolding met_from counted value_of_node walked_from child_by lowest_by is_child_by matches children_of run_from kth gap bit sum_below
 met-a = (refl, refl, refl)
 
 some_one : (m n : ℕ) → ◌≡◌ {A = Option ℕ} (Some m) (Some n) → m ≡ n
@@ -119,7 +119,7 @@ abbrev lone : ℕ → Image
 lone entry = record { labels = entry ∷ []; values = entry ∷ []; words = 2 ∷ [] }
 
 met-lone : (met (lone 353) a ≡ []) × (found_by (lone 353) a ≡ None)
-unfolding met_from counted value_of_node walked_from child_by lowest_by is_child_by matches children_of run_from kth or_end gap bit sum_below
+unfolding met_from counted value_of_node walked_from child_by lowest_by is_child_by matches children_of run_from kth gap bit sum_below
 met-lone = (refl, refl)
 
 alike-lone : Alike (lone 353) (lone 610) a

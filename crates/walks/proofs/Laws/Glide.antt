@@ -36,7 +36,6 @@ use Rattle.louds.proofs.Laws.MapNodes.{ChildrenOf, children-node}
 use Rattle.image.specs.Accept.{entries}
 use Rattle.image.specs.Meaning.{MapImage}
 use Rattle.walks.specs.declared.stands.Stand.{Stand}
-use Rattle.walks.specs.declared.moves.Reached.TheVariants.{To, NoPath}
 use Rattle.walks.specs.declared.glide.Glided.{Glided}
 use Rattle.walks.specs.Rule.{counts, value_of_node}
 use Rattle.walks.specs.Stands.{stand_at, kids_from, kid_from}
@@ -87,28 +86,28 @@ module _ (ls vs : List ℕ) (b : ℕ → ℕ) (len : ℕ) (s : Stand) where
           let (above, within) = counts-told (length ls) s.node (kids_from b len s).first (sym (through-kid f (eqb-true _ _ g)) ∙ e) in
           record { above = above; within = within }
 
-  pub onward-goes : goes_through ls vs b len s ≡ true → onward_from ls vs b len s ≡ To (kid_from b len s.node (kids_from b len s).next (kids_from b len s).first)
+  pub onward-goes : goes_through ls vs b len s ≡ true → onward_from ls vs b len s ≡ Some (kid_from b len s.node (kids_from b len s).next (kids_from b len s).first)
   unfolding onward_from only_kid
   onward-goes e = rw e
 
-  pub onward_stops : goes_through ls vs b len s ≡ false → onward_from ls vs b len s ≡ NoPath
+  pub onward_stops : goes_through ls vs b len s ≡ false → onward_from ls vs b len s ≡ None
   unfolding onward_from
   onward_stops e = rw e
 
-  pub onward-to : (t : Stand) → onward_from ls vs b len s ≡ To t → (goes_through ls vs b len s ≡ true) × (only_kid b len s ≡ t)
+  pub onward-to : (t : Stand) → onward_from ls vs b len s ≡ Some t → (goes_through ls vs b len s ≡ true) × (only_kid b len s ≡ t)
   unfolding onward_from
   onward-to t e = go (goes_through ls vs b len s) refl
     where
       go : (x : Bool) → goes_through ls vs b len s ≡ x → (goes_through ls vs b len s ≡ true) × (only_kid b len s ≡ t)
-      go true f = let same : To (only_kid b len s) ≡ To t = rw f at e in (f, cc)
-      go false f = let never : NoPath ≡ To t = rw f at e in let z : ◌≡◌ {A = ℕ} 0 1 = cc in absurd (omega arith)
+      go true f = let same : Some (only_kid b len s) ≡ Some t = rw f at e in (f, cc)
+      go false f = let never : None ≡ Some t = rw f at e in let z : ◌≡◌ {A = ℕ} 0 1 = cc in absurd (omega arith)
 
-  pub onward-end : onward_from ls vs b len s ≡ NoPath → goes_through ls vs b len s ≡ false
+  pub onward-end : onward_from ls vs b len s ≡ None → goes_through ls vs b len s ≡ false
   unfolding onward_from
   onward-end e = go (goes_through ls vs b len s) refl
     where
       go : (x : Bool) → goes_through ls vs b len s ≡ x → goes_through ls vs b len s ≡ false
-      go true f = let never : To (only_kid b len s) ≡ NoPath = rw f at e in let z : ◌≡◌ {A = ℕ} 0 1 = cc in absurd (omega arith)
+      go true f = let never : Some (only_kid b len s) ≡ None = rw f at e in let z : ◌≡◌ {A = ℕ} 0 1 = cc in absurd (omega arith)
       go false f = f
 
 -- ---- the glide, on any bits

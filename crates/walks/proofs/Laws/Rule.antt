@@ -26,7 +26,7 @@ use lib.Dec.{eqb, leb}
 use borrow.Author.Tests.{lt-ltb, le-ltb, le-leb, lt-leb, eq-eqb, eqb-true}
 use Rattle.keymap.specs.Key.{Key}
 use Rattle.keymap.specs.Label.{mark, label_in}
-use Rattle.louds.specs.declared.answers.Children.TheVariants.{Run, NoNode}
+use Rattle.louds.specs.Nodes.{Run}
 use Rattle.louds.specs.Nodes.{children_of}
 use Rattle.walks.specs.Rule.{is_node_of, counts_to, matches, is_child_by, lowest_by, child_by, step_by, walked_from, value_of_node}
 
@@ -170,7 +170,7 @@ lowest-told (suc left) ls k m a = go (is_child_by ls k m a) refl (lowest-told le
 -- ---- the child of a node, and a walk
 
 module _ (ls : List ℕ) (b : ℕ → ℕ) (len : ℕ) where
-  pub child_by-none : (k a : ℕ) → children_of b len k ≡ NoNode → child_by ls b len k a ≡ None
+  pub child_by-none : (k a : ℕ) → children_of b len k ≡ None → child_by ls b len k a ≡ None
   unfolding child_by
   child_by-none k a e = rw e
 

@@ -21,7 +21,8 @@ use lib.Seq.{length-take-le, take-append_seam, drop-append-add}
 use lib.Dec.{ltb}
 use borrow.Author.Tests.{lt-ltb, le-ltb, ltb-true, not-true}
 use Rattle.keymap.specs.Map.{Entry}
-use Rattle.keymap.specs.Refusals.{Refusal, refuses}
+use Rattle.keymap.specs.Refusals.{refuses}
+use Rattle.keymap.specs.declared.refusals.Refusal.{Refusal}
 use Rattle.keymap.proofs.Laws.Begins.{both_true}
 use Rattle.lines.specs.Bytes.{tab, line_feed, holds, stretch}
 use Rattle.lines.specs.Decimal.{number_in}

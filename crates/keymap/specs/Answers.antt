@@ -1,6 +1,7 @@
 -- What several calls say in numbers: a refusal is its number alone, every other answer begins with 0 and goes on with
 -- what it tells.
 --
+--     said           an answer that may be a refusal, and `told_value`: what a value found tells
 --     given          whether something was found
 --     says_value     a value found, or no match
 --     says_flag      yes, or no
@@ -8,11 +9,20 @@
 --     written_key    the buffer where there may be no key
 --     answer_number  the number that an answer begins with: that of a refusal, 0 of every other
 -- Assumes nothing.
-use Rattle.std.specs.Prelude.{ℕ, Bool, true, false, cond, List, [], ◌∷◌, length, leb, Option, None, Some}
+use Rattle.std.specs.Prelude.{ℕ, Bool, true, false, cond, List, [], ◌∷◌, length, leb, Option, None, Some, Result, Ok, Err}
 use Rattle.keymap.specs.Key.{Key}
 use Rattle.keymap.specs.Buffers.{over}
 use Rattle.keymap.specs.Refusals.{refuses}
+use Rattle.keymap.specs.declared.refusals.Refusal.{Refusal}
 use Rattle.keymap.specs.declared.refusals.Refusal.TheVariants.{KeyRoom}
+
+abbrev pub said : {T : Type 0} → (T → List ℕ) → Result T Refusal → List ℕ
+said tells (Ok x) = 0 ∷ tells x
+said tells (Err r) = refuses r
+
+abbrev pub told_value : Option ℕ → List ℕ
+told_value None = []
+told_value (Some v) = v ∷ []
 
 abbrev pub given : Option ℕ → Bool
 given None = false

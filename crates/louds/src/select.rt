@@ -34,17 +34,20 @@ pub fn lowest_one(word: u64) -> usize
 fn picked(word: u64, j: usize) -> Option<usize>
     ensures { result ≡ kth (digit word) word_bits j }
 {
-    if j == 0 || word == 0 {
+    if j == 0 {
         return None;
     }
+    let mut left = j;
     let mut rest = word;
-    for _ in 1..j {
-        rest &= rest - 1;
-        if rest == 0 {
-            return None;
+    // it ends with the word's ones: as a `for` up to j a turn took an instruction more
+    while rest != 0 {
+        if left == 1 {
+            return Some(lowest_one(rest));
         }
+        rest &= rest - 1;
+        left -= 1;
     }
-    Some(lowest_one(rest))
+    None
 }
 
 // Where the j-th one of a word is that has so many. Beyond a few, its byte is found by the counts of all bytes at once,
@@ -120,7 +123,8 @@ fn near_zero(words: &[u64], len: usize, from: usize, k: usize) -> Option<usize>
 {
     let w = from / WORD_BITS;
     let before = from % WORD_BITS;
-    let p = w * WORD_BITS + picked(marks_in(words, 0, w) >> before << before, k)?;
+    let near = picked(marks_in(words, 0, w) >> before << before, k)?;
+    let p = w * WORD_BITS + near;
     if p < len { Some(p) } else { None }
 }
 
@@ -140,7 +144,7 @@ fn bit_from(words: &[u64], len: usize, v: u64, from: usize, k: usize) -> Option<
     let mut x = marks_in(words, v, w) >> before << before;
     let mut count = ones_in(x);
     let mut left = k;
-    // a `for` over the words was tried: a call took some seven instructions in a hundred more
+    // as a `for` over the words a call took two to four instructions in a hundred more where the bit is not far
     while count < left {
         if len / WORD_BITS <= w {
             return None;

@@ -1,7 +1,9 @@
--- `louds::select::picked` meets its contract. The invariant: of the ones, those before the `counter`-th are taken away, and `rest` has the others and is no 0. Assumes nothing.
-use Rattle.std.proofs.Common.{◌≡◌, ◌+◌, ◌-◌}
+-- `louds::select::picked` meets its contract. The invariant: with the ones taken away `left` makes j, and `rest` has the others. Assumes nothing.
 use Rattle.louds.proofs.Laws.NthOne.{Picking}
 use Rattle.louds.proofs.select.picked.Given as goal
 
-abbrev pub invariant-loop : goal.invariant-loop
-invariant-loop l = Picking l.word l.j (l.j + 1 - l.counter) l.rest × (l.rest ≡ 0 → ⊥)
+abbrev pub invariant-loop-rest : goal.invariant-loop-rest
+invariant-loop-rest l = Picking l.word l.j l.left l.rest
+
+abbrev pub decreases-loop-rest : goal.decreases-loop-rest
+decreases-loop-rest l = l.left

@@ -48,10 +48,7 @@ fn pass_fours(words: &[u64], whole: usize, first: usize, k: usize) -> Passed
 {
     let mut w = first;
     let mut left = k;
-    if words.len() < whole {
-        return Passed { words: w, left };
-    }
-    if whole < w {
+    if words.len() < whole || whole < first {
         return Passed { words: w, left };
     }
     // not a `for` over chunks of four words: the word that is come to is answered, and would be counted beside them
@@ -62,7 +59,7 @@ fn pass_fours(words: &[u64], whole: usize, first: usize, k: usize) -> Passed
             + ones_in(words[w + 3]);
         let zeros = 256 - ones;
         if left <= zeros {
-            return Passed { words: w, left };
+            break;
         }
         left -= zeros;
         w += 4;
@@ -128,15 +125,12 @@ pub fn go_far(labels: &[u16], words: &[u64], len: usize, query: &[u8]) -> Option
         zeros: 0,
         sums: 0,
     };
+    let mut steps = query.len();
     for i in 0..query.len() {
         if kept.zeros < kept.left {
             let Some(next) = pass_on(words, whole, kept.words, kept.left - kept.zeros) else {
-                return Some(Gone {
-                    node,
-                    steps: i,
-                    kept: kept.words,
-                    left: kept.left,
-                });
+                steps = i;
+                break;
             };
             kept = next;
         }
@@ -146,16 +140,11 @@ pub fn go_far(labels: &[u16], words: &[u64], len: usize, query: &[u8]) -> Option
         let more = rest & (rest - 1);
         let to = if more != 0 {
             base + lowest_one(more) - 64
-        } else {
-            let Some(v) = word_with_zero(words, whole, kept.words) else {
-                return Some(Gone {
-                    node,
-                    steps: i,
-                    kept: kept.words,
-                    left: kept.left,
-                });
-            };
+        } else if let Some(v) = word_with_zero(words, whole, kept.words) {
             v * WORD_BITS + lowest_one(!words[v]) - node
+        } else {
+            steps = i;
+            break;
         };
         let m = child_within(labels, node, from, to, query[i])?;
         kept.left += m - node;
@@ -163,7 +152,7 @@ pub fn go_far(labels: &[u16], words: &[u64], len: usize, query: &[u8]) -> Option
     }
     Some(Gone {
         node,
-        steps: query.len(),
+        steps,
         kept: kept.words,
         left: kept.left,
     })

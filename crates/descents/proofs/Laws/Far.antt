@@ -176,11 +176,11 @@ module _ (ws : List ℕ) (wide : (i : ℕ) → get_or ws i 0 < 2 ^ word_bits) wh
 
   -- ---- passing
 
-  pub four-passed : (first k w left ones-there zeros : ℕ) → PassedFrom ws first k (record { words = w; left = left })
-      → ones-there ≡ ones (get_or ws w 0) + ones (get_or ws (w + 1) 0) + ones (get_or ws (w + 2) 0) + ones (get_or ws (w + 3) 0) → zeros ≡ 256 - ones-there → ones-there ≤ 256 → zeros < left
-      → PassedFrom ws first k (record { words = w + 4; left = left - zeros })
-  four-passed first k w left there zeros p is less few l = record {
-    sum = omega (arith, p.sum, four-next w, is, less, few, l);
+  pub four-passed : (first k w left ones-there : ℕ) → PassedFrom ws first k (record { words = w; left = left })
+      → ones-there ≡ ones (get_or ws w 0) + ones (get_or ws (w + 1) 0) + ones (get_or ws (w + 2) 0) + ones (get_or ws (w + 3) 0) → ones-there ≤ 256 → 256 - ones-there < left
+      → PassedFrom ws first k (record { words = w + 4; left = left - (256 - ones-there) })
+  four-passed first k w left there p is few l = record {
+    sum = omega (arith, p.sum, four-next w, is, few, l);
     some = λ h. omega (arith, l);
   }
 

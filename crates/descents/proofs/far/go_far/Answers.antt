@@ -19,7 +19,7 @@ use Rattle.descents.proofs.far.go_far.Goals.{After-ones_from-rest, In_ok-m, then
 use Rattle.descents.proofs.far.go_far.Goals as goal
 
 pub loop-i-init : goal.loop-i-init
-loop-i-init c = (keeping_start c.args.words.now c.min-whole.result, refl)
+loop-i-init c = (keeping_start c.args.words.now c.min-whole.result, refl, refl)
 
 -- the word that is kept now has the node's zero
 module _ (o : After-ones_from-rest) where
@@ -128,10 +128,10 @@ returns-in_default-word_with_zero c =
     gone-rule a.labels.now a.words.now a.len a.query.now l.node l.i k.words k.left l.invariant.1
     (keeping-stand a.words.now (whole o) l.node a.len k (settled-keeping a.words.now (whole o) l.node k (settled o)))
 
-pub overflow_sub-to-else-more-ne0 : goal.overflow_sub-to-else-more-ne0
-overflow_sub-to-else-more-ne0 c =
-    let o = (goal.at.overflow_sub-to-else-more-ne0 c).After-ones_from-rest in
-    (beyond o c.in-Some-word_with_zero.v c.lowest_one-else-more-ne0.result c.if-more-ne0.false c.in-Some-word_with_zero.ensures c.lowest_one-else-more-ne0.ensures).2
+pub overflow_sub-to-in-Some-word_with_zero : goal.overflow_sub-to-in-Some-word_with_zero
+overflow_sub-to-in-Some-word_with_zero c =
+    let o = (goal.at.overflow_sub-to-in-Some-word_with_zero c).After-ones_from-rest in
+    (beyond o c.in-Some-word_with_zero.v c.lowest_one-in-Some-word_with_zero.result c.if-more-ne0.false c.in-Some-word_with_zero.ensures c.lowest_one-in-Some-word_with_zero.ensures).2
 
 pub returns-in_err-m : goal.returns-in_err-m
 returns-in_err-m c =
@@ -142,7 +142,7 @@ returns-in_err-m c =
     let n : Next o c.if-more-ne0.to =
     elim c.if-more-ne0.branch [
       | then-more-ne0 t ↦ next-in o _ _ t.to-is t.if-more-ne0.true t.lowest_one-then-more-ne0.ensures
-      | else-more-ne0+in-Some-word_with_zero e ↦ next-beyond o _ _ _ e.to-is e.if-more-ne0.false e.in-Some-word_with_zero.ensures e.lowest_one-else-more-ne0.ensures
+      | else-more-ne0+in-Some-word_with_zero e ↦ next-beyond o _ _ _ e.to-is e.if-more-ne0.false e.in-Some-word_with_zero.ensures e.lowest_one-in-Some-word_with_zero.ensures
     ] in
     let lost = step o c.lowest_one.result c.if-more-ne0.to _ c.lowest_one.ensures n ∙ sym c.in_err-m.ensures in
     ap (went_on a.labels.now b a.len a.query.now) c.from_residual.ensures
@@ -175,20 +175,21 @@ loop-i-preserved c =
     let n : Next o c.if-more-ne0.to =
     elim c.if-more-ne0.branch [
       | then-more-ne0 t ↦ next-in o _ _ t.to-is t.if-more-ne0.true t.lowest_one-then-more-ne0.ensures
-      | else-more-ne0+in-Some-word_with_zero e ↦ next-beyond o _ _ _ e.to-is e.if-more-ne0.false e.in-Some-word_with_zero.ensures e.lowest_one-else-more-ne0.ensures
+      | else-more-ne0+in-Some-word_with_zero e ↦ next-beyond o _ _ _ e.to-is e.if-more-ne0.false e.in-Some-word_with_zero.ensures e.lowest_one-in-Some-word_with_zero.ensures
     ] in
     let there = step o c.lowest_one.result c.if-more-ne0.to _ c.lowest_one.ensures n ∙ sym c.in_ok-m.ensures in (
       keeping-next (ws o) (whole o) l.node c.in_ok-m.m (kept o) (settled o) (omega (arith, bounds (goal.at.loop-i-preserved c).In_ok-m)),
       l.invariant.1
           ∙ walked_from-next a.labels.now b a.len a.query.now l.i l.node c.loop-i-test.true
           ∙ ap (walked_from a.labels.now b a.len (drop (l.i + 1) a.query.now)) there,
+      l.invariant.2,
     )
 
-pub returns : goal.returns
-returns c =
+pub returns-after-loop-i : goal.returns-after-loop-i
+returns-after-loop-i c =
     let a = c.args in
     let l = c.loop-i in
-    let steps : l.i ≡ length a.query.now = omega (arith, c.loop-i-test.false, l.auto.i-end) in
-    gone-rule a.labels.now a.words.now a.len a.query.now l.node (length a.query.now) l.kept.words l.kept.left
+    let steps : l.i ≡ l.steps = omega (arith, c.loop-i-test.false, l.auto.i-end, l.invariant.2) in
+    gone-rule a.labels.now a.words.now a.len a.query.now l.node l.steps l.kept.words l.kept.left
     (l.invariant.1 ∙ ap (λ (i : ℕ). walked_from a.labels.now (bit a.words.now) a.len (drop i a.query.now) (Some l.node)) steps)
     (keeping-stand a.words.now c.min-whole.result l.node a.len l.kept l.invariant.0)

@@ -2,7 +2,7 @@
 -- Assumes nothing.
 use mathlib.Core.Path.{◌≡◌}
 use Rattle.std.specs.Prelude.{Some}
-use lib.ListN.{drop}
+use lib.ListN.{length, drop}
 use Rattle.keymap.specs.Bits.{bit}
 use Rattle.walks.specs.Rule.{walked_from, walked}
 use Rattle.descents.proofs.Laws.Far.{Keeping}
@@ -12,3 +12,4 @@ abbrev pub invariant-loop-i : goal.invariant-loop-i
 invariant-loop-i l =
     Keeping l.words l.whole l.node l.kept
     × (walked l.labels (bit l.words) l.len l.query ≡ walked_from l.labels (bit l.words) l.len (drop l.i l.query) (Some l.node))
+    × (l.steps ≡ length l.query)

@@ -17,11 +17,10 @@ use Rattle.keymap.specs.Map.{Entry, Map}
 use Rattle.keymap.specs.Paths.{IsNode, path_of, node_of}
 use Rattle.louds.specs.declared.answers.Children.{Children}
 use Rattle.louds.specs.Select.{one_at}
-use Rattle.louds.specs.Nodes.{Run, children_of}
+use Rattle.louds.specs.Nodes.{children_of}
+use Rattle.walks.specs.declared.entries.KeyNode.{KeyNode}
 use Rattle.walks.specs.Rule.{counts_to, value_of_node}
 use Rattle.climbs.specs.Perches.{parent_by}
-use Rattle.climbs.specs.declared.order.Given.{Given}
-use Rattle.climbs.specs.declared.order.Given.TheVariants as gives
 
 -- the first of two that is there
 abbrev pub or_else : {A : Type 0} → Option A → Option A → Option A
@@ -30,7 +29,7 @@ or_else None o = o
 
 abbrev pub first_of : ℕ → ℕ → Option Children → Option ℕ
 first_of last k None = None
-first_of last k (Run first count) = cond (ltb 0 count && counts_to last k first) (Some first) None
+first_of last k (Some run) = cond (ltb 0 run.count && counts_to last k run.first) (Some run.first) None
 
 unfoldable pub first_by : (ℕ → ℕ) → ℕ → ℕ → ℕ → Option ℕ
 first_by b len last k = first_of last k (children_of b len k)
@@ -76,15 +75,15 @@ sought_from ls vs b len top (suc left) (Some k) =
 unfoldable pub next_by : List ℕ → List ℕ → (ℕ → ℕ) → ℕ → ℕ → ℕ → Option (ℕ × ℕ)
 next_by ls vs b len top k = sought_from ls vs b len top (length ls + 1) (advance_by b len (length ls + 1) top k)
 
-abbrev pub given_of : Option (ℕ × ℕ) → Given
-given_of None = gives.Nothing
-given_of (Some e) = gives.Entry e.0 e.1
+abbrev pub given_of : Option (ℕ × ℕ) → Option KeyNode
+given_of None = None
+given_of (Some e) = Some (record { node = e.0; value = e.1 })
 
 pub record UnderTop (m : Map) (top node : ℕ) : Type 0 where
   pub top-inside : IsNode m top
   pub inside : IsNode m node
   pub begins : PrefixOf (path_of m top) (path_of m node)
 
-abbrev pub given_by : Map → Option Entry → Given
-given_by m None = gives.Nothing
-given_by m (Some e) = gives.Entry (node_of m e.0) e.1
+abbrev pub given_by : Map → Option Entry → Option KeyNode
+given_by m None = None
+given_by m (Some e) = Some (record { node = node_of m e.0; value = e.1 })

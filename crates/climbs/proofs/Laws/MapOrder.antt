@@ -38,7 +38,6 @@ use Rattle.walks.specs.Rule.{counts_to, value_of_node}
 use Rattle.walks.proofs.Laws.MapImage.{length-nodes, run-node}
 use Rattle.walks.proofs.Laws.MapWalk.{kid, node-value}
 use Rattle.walks.proofs.Laws.Rule.{counts_to-upto}
-use Rattle.climbs.specs.declared.order.Given.TheVariants.{Entry, Nothing}
 use Rattle.climbs.specs.Order.{or_else, first_by, one_behind, beside_by, climbed_from, climb_by, advance_by, sought_from, next_by, given_of, UnderTop, given_by}
 use Rattle.climbs.proofs.Laws.MapClimb.{upper-node, StepUp, step-up, upper-path}
 use Rattle.climbs.proofs.Laws.Order.{one_behind-inside, one_behind-told, first_run, beside_at, climbed-top, climbed-on, next-starts, sought-done, sought-lost, sought-value, sought-on}
@@ -131,14 +130,14 @@ record Seeking (m : Map) (top node at : ℕ) : Type 0 where
   same : least_above (path_of m node) (beginning (path_of m top) m) ≡ least_above (path_of m at) (beginning (path_of m top) m)
 
 module _ (m : Map) (c : Catalogue m) (top node at : ℕ) (seeking : Seeking m top node at) where
-  seek-ends : LastIn (paths_below m (path_of m top)) (path_of m at) → given_by m (least_above (path_of m node) (beginning (path_of m top) m)) ≡ Nothing
+  seek-ends : LastIn (paths_below m (path_of m top)) (path_of m at) → given_by m (least_above (path_of m node) (beginning (path_of m top) m)) ≡ None
   seek-ends n = ap (given_by m) (seeking.same ∙ least_above-last m c.rising (path_of m top) (path_of m at) n)
 
   module _ (next : ℕ) (inside : IsNode m next) (n : NextIn (paths_below m (path_of m top)) (path_of m at) (path_of m next)) where
-    seek_found : (v : ℕ) → lookup (path_of m next) m ≡ Some v → given_by m (least_above (path_of m node) (beginning (path_of m top) m)) ≡ Entry next v
+    seek_found : (v : ℕ) → lookup (path_of m next) m ≡ Some v → given_by m (least_above (path_of m node) (beginning (path_of m top) m)) ≡ Some (record { node = next; value = v })
     seek_found v e =
         ap (given_by m) (seeking.same ∙ least_above-valued m c.rising (path_of m top) (path_of m at) (path_of m next) v n e)
-        ∙ ap (λ (k : ℕ). Entry k v) (node_of-path_of m c.rising next inside)
+        ∙ (λ x. Some (record { node = node_of-path_of m c.rising next inside x; value = v }))
 
     seek-on : lookup (path_of m next) m ≡ None → Seeking m top node next
     seek-on e = record {

@@ -7,10 +7,12 @@
 --     chain_rest     how many records are left to be met after a chain
 --     pass_rest      how many are left after the first records and their chains
 --     sound_test     the whole test: true exactly of a sound pool
+--     check_sound    how a slice that is no sound pool is refused
 -- Assumes nothing.
-use Rattle.std.specs.Prelude.{ℕ, zero, suc, ◌+◌, Bool, true, false, cond, ◌&&◌, length, leb, ltb, eqb, Option, None, Some}
+use Rattle.std.specs.Prelude.{ℕ, zero, suc, ◌+◌, Bool, true, false, cond, ◌&&◌, length, leb, ltb, eqb, Option, None, Some, Result, Ok, Err}
 use Rattle.keymap.specs.Limits.{byte_limit}
 use Rattle.keymap.specs.Label.{mark}
+use Rattle.keymap.specs.declared.refusals.Refusal.{Refusal}
 use Rattle.records.specs.Words.{Pool, record_words, entry, label, value, first_child, next_sibling, parent}
 use Rattle.records.specs.Words.{last_record, used_count, capacity}
 
@@ -62,3 +64,7 @@ sound_test p =
     both (leb record_words (length p))
     (both (root_fits (last_record p) (capacity p) (value p 0) (next_sibling p 0) (parent p 0))
     (none_left (pass_rest p (last_record p) (used_count p) (suc (last_record p)))))
+
+unfoldable pub check_sound : Pool → Result (Unit {0}) Refusal
+check_sound p =
+    cond (ltb (length p) record_words) (Err Refusal.PoolTooSmall) (cond (sound_test p) (Ok tt) (Err Refusal.NotAPool))

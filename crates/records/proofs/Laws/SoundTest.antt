@@ -7,6 +7,7 @@
 --     sound-..                           the cases of the whole test
 --     test-sound, sound-test, sound-iff  the test is true exactly of a sound pool
 --     said-means-sound                   and so is an answer that is the test's
+--     check-..                           the cases of the refusal; it is none exactly of a sound pool
 -- Assumes nothing.
 use Prim.Native.Nat.{ℕ, zero, suc, ◌+◌, ◌-◌, ◌≤◌, ◌<◌}
 use mathlib.Core.Path.{◌≡◌, refl, sym, ◌∙◌, ap, subst}
@@ -15,18 +16,19 @@ use mathlib.Core.List.{List, [], ◌∷◌, ◌++◌}
 use mathlib.Core.Logic.{inl, inr, ⊎_elim, ◌↔◌}
 use lib.Dec.{leb, ltb, eqb}
 use lib.ListN.{length, length-append}
-use borrow.Author.Tests.{lt-ltb, le-leb, lt-leb, eq-eqb, ne_eqb, leb-true, ltb-true, eqb-true, eqb-false}
+use borrow.Author.Tests.{lt-ltb, le-leb, lt-leb, eq-eqb, ne_eqb, leb-true, ltb-true, eqb-true, eqb-false, le-ltb, ltb-false}
 use native.Mathlib.Omega.{arith}
 use native.Mathlib.Nat.{eq-or-lt_of_le}
 use native.Mathlib.Numerals.{sub-one}
 use Rattle.keymap.specs.Limits.{byte_limit}
 use Rattle.keymap.specs.Label.{mark}
-use Rattle.std.specs.Prelude.{Option, None, Some}
+use Rattle.std.specs.Prelude.{Option, None, Some, Result, Ok, Err}
 use Rattle.std.specs.Option.{option_eq}
 use Rattle.std.proofs.lemmas.Bool.Decides.{nat_tests}
+use Rattle.keymap.specs.declared.refusals.Refusal.{Refusal}
 use Rattle.records.specs.Words.{Pool, record_words, entry, label, value, first_child, next_sibling, parent, last_record, used_count, InUse, capacity}
 use Rattle.records.specs.Sound.{Among, Chain, LabelsRise, ChildChain, Sound}
-use Rattle.records.specs.SoundTest.{both, words_fit, record_fits, is_child, chain_rest, record_rest, pass_rest, none_left, root_fits, sound_test}
+use Rattle.records.specs.SoundTest.{both, words_fit, record_fits, is_child, chain_rest, record_rest, pass_rest, none_left, root_fits, sound_test, check_sound}
 use Rattle.records.proofs.Laws.Distinct.{Once, equal_or_not, in-append, in_left, in_right, once-append, once-at-most, cover-at-least, once-covers}
 use Rattle.records.proofs.Laws.Words.{count-last, node-within, within-node}
 use Rattle.records.proofs.Laws.Sound.{rises-distinct}
@@ -389,3 +391,30 @@ sound-iff p = (test-sound p, sound-test p)
 
 pub said-means-sound : (p : Pool) (said : Bool) → said ≡ sound_test p → (said ≡ true) ↔ Sound p
 said-means-sound p said e = (λ t. test-sound p (sym e ∙ t), λ s. e ∙ sound-test p s)
+
+-- ---- how a slice that is no sound pool is refused
+module _ (p : Pool) where
+  pub check-small : length p < record_words → Err Refusal.PoolTooSmall ≡ check_sound p
+  unfolding check_sound
+  check-small h = simp (lt-ltb _ _ h)
+
+  pub check-unsound : record_words ≤ length p → sound_test p ≡ false → Err Refusal.NotAPool ≡ check_sound p
+  unfolding check_sound
+  check-unsound h e = simp (le-ltb _ _ h, e)
+
+  pub check-passed : record_words ≤ length p → sound_test p ≡ true → Ok tt ≡ check_sound p
+  unfolding check_sound
+  check-passed h e = simp (le-ltb _ _ h, e)
+
+  pub passed-test : check_sound p ≡ Ok tt → (record_words ≤ length p) × (sound_test p ≡ true)
+  unfolding check_sound
+  passed-test e = go (ltb (length p) record_words) (sound_test p) refl refl e
+    where
+      go : (t u : Bool) → ltb (length p) record_words ≡ t → sound_test p ≡ u
+          → cond t (Err Refusal.PoolTooSmall) (cond u (Ok (tt {0})) (Err Refusal.NotAPool)) ≡ Ok (tt {0}) → (record_words ≤ length p) × (sound_test p ≡ true)
+      go true u a b q = absurd (cc)
+      go false true a b q = (ltb-false _ _ a, b)
+      go false false a b q = absurd (cc)
+
+  pub check-means-sound : (r : Result (Unit {0}) Refusal) → r ≡ check_sound p → (r ≡ Ok tt) ↔ Sound p
+  check-means-sound r e = (λ q. test-sound p (passed-test (sym e ∙ q)).1, λ s. e ∙ sym (check-passed s.rooted (sound-test p s)))

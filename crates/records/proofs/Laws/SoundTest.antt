@@ -416,5 +416,8 @@ module _ (p : Pool) where
       go false true a b q = (ltb-false _ _ a, b)
       go false false a b q = absurd (cc)
 
+  pub sound-passed : Sound p → check_sound p ≡ Ok tt
+  sound-passed s = sym (check-passed s.rooted (sound-test p s))
+
   pub check-means-sound : (r : Result (Unit {0}) Refusal) → r ≡ check_sound p → (r ≡ Ok tt) ↔ Sound p
-  check-means-sound r e = (λ q. test-sound p (passed-test (sym e ∙ q)).1, λ s. e ∙ sym (check-passed s.rooted (sound-test p s)))
+  check-means-sound r e = (λ q. test-sound p (passed-test (sym e ∙ q)).1, λ s. e ∙ sound-passed s)

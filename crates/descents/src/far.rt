@@ -119,12 +119,14 @@ pub fn go_far(labels: &[u16], words: &[u64], len: usize, query: &[u8]) -> Option
 {
     let whole = words.len().min(len / WORD_BITS);
     let mut node: usize = 1;
+    // no word yet: one zero is to be passed, from bit 0 on
     let mut kept = Kept {
         words: 0,
         left: 1,
         zeros: 0,
         sums: 0,
     };
+    // all of them, where none leads out of the whole words
     let mut steps = query.len();
     for i in 0..query.len() {
         if kept.zeros < kept.left {

@@ -36,6 +36,7 @@ fn go_on(
         (Some (stand_near (bit words.now) len node kept left)) }
 {
     let mut s = stand_near(words, len, node, kept, left);
+    // no step where `steps` is the query's length or more
     for j in steps..query.len() {
         s = down(labels, words, len, s, query[j])?;
     }

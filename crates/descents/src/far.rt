@@ -35,7 +35,7 @@ pub struct Kept {
 // How far whole words took a walk: to a node after some steps. The word kept is word kept-1, and from its start on the
 // node's zero is the `left`-th. Where `kept` is 0 no word is kept yet, and the zero is the `left`-th from bit 0 on.
 #[derive(Clone, Copy)]
-pub struct Gone {
+pub struct Headway {
     pub node: usize,
     pub steps: usize,
     pub kept: usize,
@@ -112,7 +112,7 @@ fn word_with_zero(words: &[u64], whole: usize, first: usize) -> Option<usize>
 }
 
 // Down from node 1 along a query, as far as the zeros stand in whole words.
-pub fn go_far(labels: &[u16], words: &[u64], len: usize, query: &[u8]) -> Option<Gone>
+pub fn go_far(labels: &[u16], words: &[u64], len: usize, query: &[u8]) -> Option<Headway>
     ensures { went_on labels.now (bit words.now) len query.now result
         ≡ reached_at (bit words.now) len
         (walked labels.now (bit words.now) len query.now) }
@@ -152,7 +152,7 @@ pub fn go_far(labels: &[u16], words: &[u64], len: usize, query: &[u8]) -> Option
         kept.left += m - node;
         node = m;
     }
-    Some(Gone {
+    Some(Headway {
         node,
         steps,
         kept: kept.words,

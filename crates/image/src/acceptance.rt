@@ -38,7 +38,8 @@ fn entries_fit(labels: &[u16], values: &[u32]) -> bool
     bad == 0 && any < 2 * MARK
 }
 
-// The bits from the third on fit, and the ones are as many as the nodes.
+// The bits from the third on fit, and the ones are as many as the nodes. Here and in `is_image` a test that fails ends
+// it, since the next may only be asked where it held.
 fn passes(labels: &[u16], values: &[u32], words: &[u64]) -> bool
     requires as_many { length values.now ≡ length labels.now }
     requires framed { Framed labels.now words.now }

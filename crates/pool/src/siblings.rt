@@ -5,7 +5,8 @@ ghost use Rattle.pool.specs.Siblings.{slot_of, child_at};
 
 use records::words::{first_child, label_of, last_record, next_sibling};
 
-// A place among siblings: the one before it and the one that stands there, 0 where there is none.
+// A place among siblings: the one before it and the one that stands there, 0 where there is none. That is the format
+// of a pool's words, and as they stand both are written into them.
 #[derive(Clone, Copy)]
 pub struct Slot {
     pub prev: u32,

@@ -33,10 +33,13 @@ pub fn slot_of(pool: &[u32], i: u32, b: u32) -> Slot
     slot
 }
 
-// The child of i with label b, 0 if there is none.
-pub fn child_at(pool: &[u32], i: u32, b: u32) -> u32
+// The child of i with label b.
+pub fn child_at(pool: &[u32], i: u32, b: u32) -> Option<u32>
     ensures { result ≡ child_at pool.now i b }
 {
     let next = slot_of(pool, i, b).next;
-    if label_of(pool, next) == b { next } else { 0 }
+    if next != 0 && label_of(pool, next) == b {
+        return Some(next);
+    }
+    None
 }

@@ -1,6 +1,6 @@
 // The lines of a list and what stands in them: a letter, a space, eight hexadecimal digits, a space, and two digits for
 // each byte.
-ghost use Rattle.std.specs.Prelude.{◌≡◌, ◌-◌, length, get_or, take, drop};
+ghost use Rattle.std.specs.Prelude.{◌≡◌, ◌-◌, ◌==◌, if◌then◌else◌, length, get_or, take, drop};
 ghost use Rattle.io.specs.Counts.{IsPrefixLen};
 
 use crate::entries::{Entry, store_front};
@@ -49,9 +49,12 @@ impl<'a> Case<'a> {
 
 // A piece of a list without the LF that ends it.
 pub fn line_of(piece: &[u8]) -> &[u8]
-    ensures { result.now ≡ take (length result.now) piece.now }
+    ensures { result.now ≡ (if get_or piece.now (length piece.now - 1) 0 == 10 then take (length piece.now - 1) piece.now else piece.now) }
 {
-    piece.strip_suffix(b"\n").unwrap_or(piece)
+    match piece.split_last() {
+        Some((b'\n', line)) => line,
+        _ => piece,
+    }
 }
 
 // The first byte of a line, 0 where it is empty.

@@ -1,29 +1,7 @@
 // What the calls answer.
 ghost use Rattle.std.specs.Prelude.{◌≡◌};
 ghost use Rattle.keymap.specs.Answers.{answer_number};
-ghost use Rattle.image.specs.AcceptAnswer.{said_checked};
 ghost use Rattle.image.specs.Build.{said_built};
-
-// Of lent slices.
-#[derive(Clone, Copy)]
-pub enum Checked {
-    // Some map with nonempty keys has them for its image.
-    Accepted,
-    // None has: refusal 6.
-    NotAnImage,
-}
-
-impl Checked {
-    // The number of a refusal, 0 where there is none.
-    pub fn number(self) -> u32
-        ensures { result ≡ answer_number (said_checked self) }
-    {
-        match self {
-            Checked::Accepted => 0,
-            Checked::NotAnImage => 6,
-        }
-    }
-}
 
 // Of build. A refusal writes nothing.
 #[derive(Clone, Copy)]

@@ -10,30 +10,33 @@ mod word_test;
 
 ghost use Rattle.std.specs.Prelude.{◌≡◌, ◌↔◌, [], ◌∷◌};
 ghost use Rattle.image.specs.Accept.{OfMap};
+ghost use Rattle.image.specs.AcceptTest.{image_test};
 ghost use Rattle.image.specs.Meaning.{lent_image};
-ghost use Rattle.image.specs.AcceptAnswer.{said_checked, accept_says};
+ghost use Rattle.image.specs.AcceptAnswer.{accepted_if, said_checked, accept_says};
 ghost use Rattle.image.specs.Build.{said_built, build_says, build_labels, build_values, build_words, build_scratch};
 ghost use Rattle.image.specs.Build.{of_lent};
 
-use crate::answers::{Built, Checked};
+use crate::answers::Built;
 use crate::breadth_first::write_levels;
 use crate::buffers::buffers_fit;
 use crate::entries::write_entries;
 pub use acceptance::{is_image, lengths_fit};
 pub use buffers::words_for;
 pub use entries::MARK;
+use keymap::Refusal;
 use records::soundness::is_sound;
 use records::words::{RECORD_WORDS, used_count};
 
 // Refuses slices that are no map's image. It only reads.
-pub fn accept(labels: &[u16], values: &[u32], words: &[u64]) -> Checked
+pub fn accept(labels: &[u16], values: &[u32], words: &[u64]) -> Result<(), Refusal>
+    ensures tested { result ≡ accepted_if (image_test (lent_image labels values words)) }
     ensures answer { said_checked result ≡ accept_says (lent_image labels values words) }
     ensures of_map { (said_checked result ≡ 0 ∷ []) ↔ OfMap (lent_image labels values words) }
 {
     if !is_image(labels, values, words) {
-        return Checked::NotAnImage;
+        return Err(Refusal::NotAnImage);
     }
-    Checked::Accepted
+    Ok(())
 }
 
 // Writes the image of the pool's map, and the level order of its records to the scratch slice. The pool is only read,

@@ -1,7 +1,8 @@
 -- The answers in 01's numbers: a refusal is its number, any other answer begins with 0.
 -- Assumes nothing.
 use Rattle.std.specs.Prelude.{ℕ, List, [], ◌∷◌}
-use Rattle.keymap.specs.Refusals.{Refusal, refuses}
+use Rattle.keymap.specs.Refusals.{refuses}
+use Rattle.keymap.specs.declared.refusals.Refusal.{Refusal}
 use Rattle.lines.specs.declared.answers.Parsed.{Parsed}
 use Rattle.lines.specs.declared.answers.Cut.{Cut}
 use Rattle.lines.specs.declared.answers.Written.{Written}

@@ -1,42 +1,29 @@
 // What the entries of nodes say. Node m of 2 or more has entry m-2.
 ghost use Rattle.std.specs.Prelude.{◌≡◌, length};
 ghost use Rattle.walks.specs.Rule.{is_node_of, counts_to, matches, value_of_node};
-ghost use Rattle.walks.specs.Stands.{held_of};
 
 use image::MARK;
 
-// Which child has a label.
+// A node that is a key's, with the key's value.
 #[derive(Clone, Copy)]
-pub enum Child {
-    Node(usize),
-    Absent,
+pub struct KeyNode {
+    pub node: usize,
+    pub value: u32,
 }
 
-// What a node holds.
-#[derive(Clone, Copy)]
-pub enum Held {
-    Value(u32),
-    NoValue,
-}
-
+#[tactic(auto, unfolding(crate::specs::Rule::is_node_of))]
 // Whether a number is a node's: 1 to n+1.
 pub fn is_node(labels: &[u16], node: u32) -> bool
     ensures { result ≡ is_node_of (length labels.now) node }
 {
-    if node == 0 {
-        return false;
-    }
-    node as usize <= labels.len() + 1
+    node != 0 && node as usize <= labels.len() + 1
 }
 
 // A child counts only if its number is above its node's and at most the last node's.
 pub fn counts_to(last: usize, node: usize, child: usize) -> bool
     ensures { result ≡ counts_to last node child }
 {
-    if child <= node {
-        return false;
-    }
-    child <= last
+    node < child && child <= last
 }
 
 // Every bit of an entry but the mark of a value.
@@ -49,26 +36,17 @@ pub fn entry_matches(entry: u16, label: u8) -> bool
     entry & UNMARKED == label as u16
 }
 
+#[tactic(auto, unfolding(crate::specs::Rule::value_of_node))]
 // The value of a node. The root has none, nor has a node with an entry of 512 or more.
-pub fn value_at(labels: &[u16], values: &[u32], node: usize) -> Held
-    ensures { result ≡ held_of (value_of_node labels.now values.now node) }
+pub fn value_at(labels: &[u16], values: &[u32], node: usize) -> Option<u32>
+    ensures { result ≡ value_of_node labels.now values.now node }
 {
-    if node < 2 {
-        return Held::NoValue;
+    let at = node.checked_sub(2)?;
+    let value = *values.get(at)?;
+    let entry = *labels.get(at)?;
+    if MARK <= entry && entry < 2 * MARK {
+        Some(value)
+    } else {
+        None
     }
-    let at = node - 2;
-    if values.len() <= at {
-        return Held::NoValue;
-    }
-    if labels.len() <= at {
-        return Held::NoValue;
-    }
-    let marked = labels[at];
-    if marked < MARK {
-        return Held::NoValue;
-    }
-    if 2 * MARK <= marked {
-        return Held::NoValue;
-    }
-    Held::Value(values[at])
 }

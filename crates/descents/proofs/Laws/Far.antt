@@ -14,7 +14,7 @@ use native.Mathlib.Nat.{mod-eq_of_lt}
 use native.Mathlib.Decide.{dec_le}
 use native.Mathlib.Omega.{arith}
 use mathlib.Core.List.{List}
-use mathlib.Core.Option.{some}
+use Rattle.std.specs.Prelude.{Some, None, unwrap_or, Option}
 use lib.Dec.{lit<}
 use lib.ListN.{get_or, drop}
 use lib.Bits.{bit_and}
@@ -27,8 +27,6 @@ use Rattle.keymap.proofs.Laws.Bits.{bit-small}
 use Rattle.louds.specs.Digits.{digit, above}
 use Rattle.louds.specs.Rank.{gap, zeros_before}
 use Rattle.louds.specs.Select.{onward, zero_at, zero_from}
-use Rattle.louds.specs.Nodes.{or_end}
-use Rattle.louds.specs.declared.answers.Spot.TheVariants.{At, Missing}
 use Rattle.louds.proofs.Laws.Rank.{gap-small, ones-zeros}
 use Rattle.louds.proofs.Laws.Words.{ones_low}
 use Rattle.louds.proofs.Laws.Digits.{above-all, above-end, above_wide, ones-few, ones-flat, ones_step, Turn, turn}
@@ -40,7 +38,6 @@ use Rattle.louds.proofs.Laws.Nodes.{children-at}
 use Rattle.louds.specs.Taking.{ones_from}
 use Rattle.louds.proofs.Laws.Taking.{Taken, taken}
 use Rattle.walks.specs.declared.stands.Stand.{Stand}
-use Rattle.walks.specs.declared.moves.Reached.TheVariants.{To}
 use Rattle.descents.specs.declared.far.Passed.{Passed}
 use Rattle.descents.specs.declared.far.Kept.{Kept}
 use Rattle.descents.specs.declared.far.Went.TheVariants.{Gone}
@@ -163,15 +160,14 @@ module _ (ws : List ℕ) (wide : (i : ℕ) → get_or ws i 0 < 2 ^ word_bits) wh
   -- the child of node k + 1 by its zero and the next
   pub level-rule : (ls : List ℕ) (len k p n a : ℕ) → ZeroAt ws k p → ZeroAt ws (k + 1) n → p < n → n < len
       → child_by ls b len (k + 1) a ≡ lowest_by ls (k + 1) (n - (k + 1) - (p + 1 - (k + 1))) (p + 1 - (k + 1) + 1) a
-  unfolding or_end
   level-rule ls len k p n a here next ahead inside =
-      let own : zero_at b len (k + 1) ≡ At p = kth-at (gap b) len p (k + 1) (omega (arith, ahead, inside)) (omega (arith, here.before)) (omega (arith, here.before, here.there)) in
-      let then : zero_at b len (k + 1 + 1) ≡ At n = kth-at (gap b) len n (k + 1 + 1) inside (omega (arith, next.before)) (omega (arith, next.before, next.there)) in
-      let end : or_end len (zero_at b len (k + 1 + 1)) ≡ n = ap (or_end len) then in
+      let own : zero_at b len (k + 1) ≡ Some p = kth-at (gap b) len p (k + 1) (omega (arith, ahead, inside)) (omega (arith, here.before)) (omega (arith, here.before, here.there)) in
+      let then : zero_at b len (k + 1 + 1) ≡ Some n = kth-at (gap b) len n (k + 1 + 1) inside (omega (arith, next.before)) (omega (arith, next.before, next.there)) in
+      let end : unwrap_or (zero_at b len (k + 1 + 1)) len ≡ n = ap (λ (o : Option ℕ). unwrap_or o len) then in
       let few : k ≤ p = omega (arith, here.before, ones-zeros b (bit-small ws) p) in
       let first : p + 1 - (k + 1 - 1) ≡ p + 1 - (k + 1) + 1 = omega (arith, few) in
       let count : n - (p + 1) ≡ n - (k + 1) - (p + 1 - (k + 1)) = omega (arith, few) in
-      child_by-run ls b len (k + 1) a (p + 1 - (k + 1 - 1)) (or_end len (zero_at b len (k + 1 + 1)) - (p + 1)) (children-at b (bit-small ws) len (k + 1) p own)
+      child_by-run ls b len (k + 1) a (p + 1 - (k + 1 - 1)) (unwrap_or (zero_at b len (k + 1 + 1)) len - (p + 1)) (children-at b (bit-small ws) len (k + 1) p own)
       ∙ ap₂ (λ (x y : ℕ). lowest_by ls (k + 1) x y a) (ap (λ (x : ℕ). x - (p + 1)) end ∙ count) first
 
   -- a word of ones has no zero
@@ -260,7 +256,7 @@ settled-keeping ws whole node w left zeros sums s = record { sum = s.sum; some =
 pub keeping-stand : (ws : List ℕ) (whole node w left zeros sums len : ℕ) → Keeping ws whole node w left zeros sums → stand_near (bit ws) len node w left ≡ stand_at (bit ws) len node
 keeping-stand ws whole node w left zeros sums len k =
     let z : zero_from (bit ws) len ((w - 1) * word_bits) left ≡ zero_at (bit ws) len node = zero-near (bit ws) len ((w - 1) * word_bits) left node k.some k.sum in
-    λ x. record { node = node; zero = or_end len (z x) }
+    λ x. record { node = node; zero = unwrap_or (z x) len }
 
 module _ (ws : List ℕ) (wide : (i : ℕ) → get_or ws i 0 < 2 ^ word_bits) (whole node w left zeros sums : ℕ) where
   -- the zeros before the next word
@@ -380,19 +376,18 @@ pub zeros-most : (ws : List ℕ) (w : ℕ) → ((i : ℕ) → get_or ws i 0 < 2 
 zeros-most ws w wide = ones-le word_bits (zero_bits ws w) (word_wide ws wide w)
 
 -- a walk that went so far ends where the rule does
-pub gone-rule : (ls ws : List ℕ) (len : ℕ) (q : Key) (node steps kept left : ℕ) → walked ls (bit ws) len q ≡ walked_from ls (bit ws) len (drop steps q) (some node)
+pub gone-rule : (ls ws : List ℕ) (len : ℕ) (q : Key) (node steps kept left : ℕ) → walked ls (bit ws) len q ≡ walked_from ls (bit ws) len (drop steps q) (Some node)
     → stand_near (bit ws) len node kept left ≡ stand_at (bit ws) len node
     → went_on ls (bit ws) len q (Gone node steps kept left) ≡ reached_at (bit ws) len (walked ls (bit ws) len q)
 gone-rule ls ws len q node steps kept left walk stand =
-    ap (λ (s : Stand). down_along ls (bit ws) len (drop steps q) (To s)) stand
-    ∙ along-rule (bit ws) (bit-small ws) len ls (drop steps q) (some node)
+    ap (λ (s : Stand). down_along ls (bit ws) len (drop steps q) (Some s)) stand
+    ∙ along-rule (bit ws) (bit-small ws) len ls (drop steps q) (Some node)
     ∙ sym (ap (reached_at (bit ws) len) walk)
 
 -- a word that begins behind the end has no zero of the bits
 pub near-beyond : (ws : List ℕ) (len node kept left : ℕ) → len ≤ (kept - 1) * word_bits → stand_near (bit ws) len node kept left ≡ record { node = node; zero = len }
-unfolding or_end
 near-beyond ws len node kept left far =
     let from : ℕ = (kept - 1) * word_bits in
-    let z : zero_from (bit ws) len from left ≡ Missing = kth-bare (onward from (gap (bit ws))) len left (λ i l. onward-before (gap (bit ws)) from i (omega (arith, l, far))) in
-    let e : or_end len (zero_from (bit ws) len from left) ≡ len = ap (or_end len) z in
+    let z : zero_from (bit ws) len from left ≡ None = kth-bare (onward from (gap (bit ws))) len left (λ i l. onward-before (gap (bit ws)) from i (omega (arith, l, far))) in
+    let e : unwrap_or (zero_from (bit ws) len from left) len ≡ len = ap (λ (o : Option ℕ). unwrap_or o len) z in
     λ x. record { node = node; zero = e x }

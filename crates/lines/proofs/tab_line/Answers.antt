@@ -1,7 +1,7 @@
 -- `lines::tab_line` meets its contract: the tests say where the first TAB and the first LF stand, and then the number decides. Assumes nothing.
 use mathlib.Core.Path.{◌≡◌, sym, ap, ◌∙◌}
 use mathlib.Core.List.{List, [], ◌∷◌}
-use mathlib.Core.Option.{Option, none, some}
+use Rattle.std.specs.Prelude.{Option, None, Some}
 use Prim.Native.Nat.{ℕ, ◌+◌, ◌-◌, ◌≤◌, ◌<◌}
 use native.Mathlib.Numerals.{add-one}
 use native.Mathlib.Omega.{arith}
@@ -24,10 +24,10 @@ decided line t l o e h f g q =
     let number : number_in (number_part line) ≡ o = rw (at, ← add-one, ← behind) (sym q) in
     tab_entry-number line (omega arith) (omega arith) ∙ ap (with_number (key_part line)) number
 
-refused : (line : List ℕ) → tab_entry line ≡ none → 9 ∷ [] ≡ tab_line_says line
+refused : (line : List ℕ) → tab_entry line ≡ None → 9 ∷ [] ≡ tab_line_says line
 refused line h = sym (tab_line_says-none line h)
 
-entered : (line : List ℕ) (t v : ℕ) → t ≡ 0 + stretch tab line → tab_entry line ≡ some (key_part line, v) → 0 ∷ t ∷ v ∷ [] ≡ tab_line_says line
+entered : (line : List ℕ) (t v : ℕ) → t ≡ 0 + stretch tab line → tab_entry line ≡ Some (key_part line, v) → 0 ∷ t ∷ v ∷ [] ≡ tab_line_says line
 entered line t v e h =
     let same : t ≡ length (key_part line) = omega (arith, length-key_part line) in
     ap (λ (n : ℕ). 0 ∷ n ∷ v ∷ []) same ∙ sym (tab_line_says-some line (key_part line, v) h)

@@ -2,7 +2,7 @@
 use mathlib.Core.Path.{◌≡◌, sym, ap, ◌∙◌}
 use mathlib.Core.Bool.{false}
 use mathlib.Core.List.{List}
-use mathlib.Core.Option.{some}
+use Rattle.std.specs.Prelude.{Some}
 use Prim.Native.Nat.{ℕ, ◌≤◌, ◌<◌}
 use native.Mathlib.Omega.{arith}
 use lib.ListN.{length}
@@ -15,10 +15,10 @@ use Rattle.lines.proofs.Laws.Numerals.{digits_in-value, digits_in-other}
 use Rattle.lines.proofs.decimal.number_in.Goals as goal
 
 reads : (t : List ℕ) (v : ℕ) → 1 ≤ length t → length t ≤ most_digits → leading_zero t ≡ false → digits_in t ≡ Digits.Value v → v < value_limit
-    → some v ≡ number_in t
+    → Some v ≡ number_in t
 reads t v n m z d l =
     let k = digits_in-value t v d in
-    sym (number_in-obeyed t (record { some-digit = n; few-digits = m; no-leading-zero = z; all_digits = k.0; in-range = rw k.1 l }) ∙ ap some k.1)
+    sym (number_in-obeyed t (record { some-digit = n; few-digits = m; no-leading-zero = z; all_digits = k.0; in-range = rw k.1 l }) ∙ ap Some k.1)
 
 pub returns-then-text-lt1 : goal.returns-then-text-lt1
 returns-then-text-lt1 c = sym (number_in-empty _ (omega arith))

@@ -11,11 +11,11 @@
 ghost use Rattle.std.specs.Prelude.{◌≤◌, length};
 
 use image::answers::Built;
-use replay::entries::{show, store};
+use replay::entries::store;
 use replay::lists::read_list;
-use replay::memory::{Image, LONGEST};
+use replay::memory::{LONGEST, LentImage};
 use replay::parts::part;
-use replay::printing::{BAR, byte, number, text};
+use replay::printing::{BAR, byte, number, show, text};
 use replay::text::{Case, lengths, line_of};
 
 // Where the lengths begin in a line of a build, and where the name does.
@@ -43,7 +43,7 @@ fn last<T>(all: &[T]) -> &[T]
 }
 
 // The four buffers, each behind a bar.
-fn show_all(rt: &impl Print, image: Image, scratch: &[u32]) {
+fn show_all(rt: &impl Print, image: LentImage, scratch: &[u32]) {
     text(rt, BAR);
     show(rt, image.labels);
     text(rt, BAR);
@@ -55,7 +55,7 @@ fn show_all(rt: &impl Print, image: Image, scratch: &[u32]) {
 }
 
 // The last entries alone.
-fn show_ends(rt: &impl Print, image: Image, scratch: &[u32]) {
+fn show_ends(rt: &impl Print, image: LentImage, scratch: &[u32]) {
     text(rt, BAR);
     show(rt, last(image.labels));
     show(rt, last(image.values));
@@ -64,17 +64,15 @@ fn show_ends(rt: &impl Print, image: Image, scratch: &[u32]) {
 }
 
 // What is written behind the answer of build.
-fn told(rt: &impl Print, letter: u8, image: Image, scratch: &[u32]) {
+fn told(rt: &impl Print, letter: u8, image: LentImage, scratch: &[u32]) {
     if letter == b'e' {
         show_ends(rt, image, scratch);
     } else {
         show_all(rt, image, scratch);
     }
     text(rt, BAR);
-    number(
-        rt,
-        image::accept(image.labels, image.values, image.words).number(),
-    );
+    let accepted = image::accept(image.labels, image.values, image.words);
+    number(rt, accepted.err().map_or(0, |refusal| refusal.number()));
     byte(rt, b'\n');
 }
 
@@ -108,7 +106,7 @@ fn build(
     told(
         rt,
         case.letter,
-        Image {
+        LentImage {
             labels,
             values,
             words,

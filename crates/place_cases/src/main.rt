@@ -8,19 +8,19 @@
 #![tactic(auto)]
 
 ghost use Rattle.std.specs.Prelude.{◌≡◌, drop};
-ghost use Rattle.image.specs.Meaning.{image_in};
+ghost use Rattle.replay.specs.Memory.{meant_image};
 ghost use Rattle.places.specs.Incremental.{place_at, QueryPromise, FollowPromise, GotoPromise};
 
 use places::{
     Answer, FollowMove, Followed, Gone, GotoMove, Place, Queried, QueryMove, goto_longest_prefix,
     query, query_until,
 };
-use replay::entries::store;
+use replay::entries::{hex, store};
 use replay::lists::read_list;
-use replay::memory::Image;
+use replay::memory::LentImage;
 use replay::parts::part;
 use replay::printing::{number, text};
-use replay::text::{Case, hex, letter, line_of};
+use replay::text::{Case, letter, line_of};
 
 // Where the image's parts and the name stand in a line, and what is asked of `query` and of `query_until`.
 const COUNT: usize = 11;
@@ -38,8 +38,8 @@ const LABEL: usize = 74;
 const TYPED: usize = 80;
 
 // Lends a place at a node to `query`.
-fn query_from(image: Image, node: u32, label: u8) -> QueryMove
-    ensures { QueryPromise (image_in image.entry.labels image.entry.values image.entry.words) label (place_at node) result.answer (place_at result.node) }
+fn query_from(image: LentImage, node: u32, label: u8) -> QueryMove
+    ensures { QueryPromise (meant_image image.entry) label (place_at node) result.answer (place_at result.node) }
 {
     let mut place = Place { node };
     let answer = query(image.labels, image.values, image.words, &mut place, label);
@@ -50,8 +50,8 @@ fn query_from(image: Image, node: u32, label: u8) -> QueryMove
 }
 
 // Lends a place at a node to `query_until`.
-fn query_until_from(image: Image, node: u32, text: &[u8]) -> FollowMove
-    ensures { FollowPromise (image_in image.entry.labels image.entry.values image.entry.words) text.now (place_at node) result.answer (place_at result.node) }
+fn query_until_from(image: LentImage, node: u32, text: &[u8]) -> FollowMove
+    ensures { FollowPromise (meant_image image.entry) text.now (place_at node) result.answer (place_at result.node) }
 {
     let mut place = Place { node };
     let answer = query_until(image.labels, image.values, image.words, &mut place, text);
@@ -62,8 +62,8 @@ fn query_until_from(image: Image, node: u32, text: &[u8]) -> FollowMove
 }
 
 // Lends a place at a node to `goto_longest_prefix`.
-fn goto_from(image: Image, node: u32) -> GotoMove
-    ensures { GotoPromise (image_in image.entry.labels image.entry.values image.entry.words) (place_at node) result.answer (place_at result.node) }
+fn goto_from(image: LentImage, node: u32) -> GotoMove
+    ensures { GotoPromise (meant_image image.entry) (place_at node) result.answer (place_at result.node) }
 {
     let mut place = Place { node };
     let answer = goto_longest_prefix(image.labels, image.values, image.words, &mut place);
@@ -125,7 +125,7 @@ fn gone(rt: &impl Print, moved: GotoMove) -> u32 {
     moved.node
 }
 
-fn answer(rt: &impl Print, case: Case, image: Image) -> u32 {
+fn answer(rt: &impl Print, case: Case, image: LentImage) -> u32 {
     let node = case.number;
     match case.letter {
         b'q' => queried(rt, query_from(image, node, letter(rest(case.line, LABEL)))),
@@ -150,7 +150,7 @@ fn answer_line(rt: &impl Print, line: &[u8]) {
     store(&mut values, 0, part(line, VALUES, 24));
     store(&mut words, 0, part(line, WORD, 16));
     let n = hex(part(line, COUNT, 1)) as usize;
-    let image = Image {
+    let image = LentImage {
         labels: part(&labels, 0, n),
         values: part(&values, 0, n),
         words: &words,

@@ -1,9 +1,19 @@
-// The entries of the lent memory and the bytes of keys: their digits in a line, storing them and writing them out.
+// The entries of the lent memory and the bytes of keys: what digits spell, and storing it.
 ghost use Rattle.std.specs.Prelude.{◌≡◌, ◌<◌, ◌≤◌, length, take};
 
-use crate::printing::number;
-use crate::text::hex;
-use std::fmt::Display;
+// The value of a digit; of any other byte, no matter what.
+fn digit(glyph: u8) -> u64 {
+    match glyph {
+        b'a'.. => (glyph - 87) as u64,
+        b'0'.. => (glyph - b'0') as u64,
+        _ => 0,
+    }
+}
+
+// The number that digits spell.
+pub fn hex(digits: &[u8]) -> u64 {
+    digits.iter().fold(0, |n, &glyph| n << 4 | digit(glyph))
+}
 
 // What digits of a line spell.
 pub trait Entry: Copy {
@@ -84,10 +94,4 @@ pub fn store_front<T: Entry>(all: &mut [T], digits: &[u8]) -> usize
 {
     store(all, 0, digits);
     digits.len().div_ceil(T::digits()).min(all.len())
-}
-
-pub fn show<T: Display>(rt: &impl Print, all: &[T]) {
-    for entry in all {
-        number(rt, entry);
-    }
 }

@@ -1,9 +1,11 @@
 // The cases of the memory of images: build, what is lent as an image, and what stands in the memory.
-use crate::entries::{show, store_last};
-use crate::memory::{Image, Memory};
+use crate::entries::{hex, store_last};
+use crate::memory::{LentImage, Memory};
 use crate::parts::part;
-use crate::printing::{ACCEPTED, LABELS, SCRATCH, VALUES, WORDS, done, number, refused, text};
-use crate::text::{Case, hex, lengths};
+use crate::printing::{
+    ACCEPTED, LABELS, SCRATCH, VALUES, WORDS, done, number, refused, show, text,
+};
+use crate::text::{Case, lengths};
 use image::answers::Built;
 
 // How many nodes were built; none where build refused.
@@ -75,7 +77,7 @@ pub fn answer(rt: &impl Print, case: Case, memory: &mut Memory) {
     }
 }
 
-fn show_image(rt: &impl Print, image: Image) {
+fn show_image(rt: &impl Print, image: LentImage) {
     text(rt, LABELS);
     show(rt, image.labels);
     text(rt, VALUES);
@@ -90,7 +92,7 @@ pub fn look_at(rt: &impl Print, case: Case, memory: &Memory) {
     let count = hex(part(case.digits, 0, 2)) as usize;
     show_image(
         rt,
-        Image {
+        LentImage {
             labels: part(&memory.labels, from, count),
             values: part(&memory.values, from, count),
             words: part(&memory.words, from, count),
@@ -101,13 +103,15 @@ pub fn look_at(rt: &impl Print, case: Case, memory: &Memory) {
 }
 
 // The cases that read the image that is lent.
-pub fn look(rt: &impl Print, letter: u8, image: Image) {
+pub fn look(rt: &impl Print, letter: u8, image: LentImage) {
     match letter {
         b'i' => show_image(rt, image),
         b'A' => done(
             rt,
             ACCEPTED,
-            image::accept(image.labels, image.values, image.words).number(),
+            image::accept(image.labels, image.values, image.words)
+                .err()
+                .map_or(0, |refusal| refusal.number()),
         ),
         _ => (),
     }

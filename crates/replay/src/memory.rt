@@ -17,7 +17,7 @@ pub struct Lent {
 
 // The image that is lent.
 #[derive(Clone, Copy)]
-pub struct Image<'a> {
+pub struct LentImage<'a> {
     pub labels: &'a [u16],
     pub values: &'a [u32],
     pub words: &'a [u64],
@@ -35,12 +35,12 @@ pub struct Memory {
 }
 
 impl Memory {
-    pub fn image(&self) -> Image<'_>
+    pub fn image(&self) -> LentImage<'_>
         ensures labels { result.labels.now ≡ take self.now.lent.labels self.now.labels }
         ensures values { result.values.now ≡ take self.now.lent.values self.now.values }
         ensures words { result.words.now ≡ take self.now.lent.words self.now.words }
     {
-        Image {
+        LentImage {
             labels: part(&self.labels, 0, self.lent.labels),
             values: part(&self.values, 0, self.lent.values),
             words: part(&self.words, 0, self.lent.words),

@@ -1,9 +1,9 @@
 // The cases of pools. A list asks for no more words than there are.
-use crate::entries::{Entry, show, store};
+use crate::entries::{Entry, hex, store};
 use crate::memory::{LONGEST, Memory};
 use crate::parts::part;
-use crate::printing::{DONE, done, number, refused};
-use crate::text::{Case, hex};
+use crate::printing::{DONE, done, number, refused, show};
+use crate::text::Case;
 use pool::answers::Counted;
 
 fn counted(rt: &impl Print, answer: Counted) {

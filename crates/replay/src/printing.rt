@@ -57,6 +57,12 @@ pub fn number<N: Display + Drop>(rt: &impl Print, n: N) {
     let _ = print!(rt; " {n}");
 }
 
+pub fn show<T: Display>(rt: &impl Print, all: &[T]) {
+    for entry in all {
+        number(rt, entry);
+    }
+}
+
 pub fn refused(rt: &impl Print, refusal: u32) {
     text(rt, REFUSED);
     number(rt, refusal);

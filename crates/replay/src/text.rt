@@ -3,7 +3,7 @@
 ghost use Rattle.std.specs.Prelude.{◌≡◌, ◌-◌, ◌==◌, if◌then◌else◌, length, get_or, take, drop};
 ghost use Rattle.io.specs.Counts.{IsPrefixLen};
 
-use crate::entries::{Entry, store_front};
+use crate::entries::{Entry, hex, store_front};
 use crate::parts::part;
 
 // Where the number of a line begins, and where its bytes do.
@@ -49,7 +49,8 @@ impl<'a> Case<'a> {
 
 // A piece of a list without the LF that ends it.
 pub fn line_of(piece: &[u8]) -> &[u8]
-    ensures { result.now ≡ (if get_or piece.now (length piece.now - 1) 0 == 10 then take (length piece.now - 1) piece.now else piece.now) }
+    ensures { result.now ≡ (if get_or piece.now (length piece.now - 1) 0 == 10
+        then take (length piece.now - 1) piece.now else piece.now) }
 {
     match piece.split_last() {
         Some((b'\n', line)) => line,
@@ -62,20 +63,6 @@ pub fn letter(line: &[u8]) -> u8
     ensures { result ≡ get_or line.now 0 0 }
 {
     line.first().copied().unwrap_or(0)
-}
-
-// The value of a digit; of any other byte, no matter what.
-fn digit(glyph: u8) -> u64 {
-    match glyph {
-        b'a'.. => (glyph - 87) as u64,
-        b'0'.. => (glyph - b'0') as u64,
-        _ => 0,
-    }
-}
-
-// The number that digits spell.
-pub fn hex(digits: &[u8]) -> u64 {
-    digits.iter().fold(0, |n, &glyph| n << 4 | digit(glyph))
 }
 
 // The lengths of labels, values, words and scratch, four digits each.

@@ -1,10 +1,10 @@
 // The cases of listings. The cursor is handed in and the one to go on with handed back.
 use crate::spelling::key;
-use replay::entries::Entry;
-use replay::memory::{Image, LONGEST};
+use replay::entries::{Entry, hex};
+use replay::memory::{LONGEST, LentImage};
 use replay::parts::part;
 use replay::printing::{BAR, END, FINISHED, LAST, TOP, number, refused, text};
-use replay::text::{Case, hex};
+use replay::text::Case;
 use trie::{Cursor, Kind, Started, Stepped};
 
 // The most steps of a listing: one for each of 4,096 nodes, and two ends.
@@ -27,7 +27,7 @@ fn tell(rt: &impl Print, cursor: Cursor) {
 }
 
 // The cursor to go on with, none where the step is refused.
-fn step(rt: &impl Print, image: Image, cursor: Cursor) -> Option<Cursor> {
+fn step(rt: &impl Print, image: LentImage, cursor: Cursor) -> Option<Cursor> {
     let answer = trie::step(image.labels, image.values, image.words, cursor);
     match answer {
         Stepped::Gave { node, value, next } => {
@@ -58,7 +58,7 @@ fn started(rt: &impl Print, answer: Started) -> Option<Cursor> {
 }
 
 // A whole listing, each step with the key that it gave, up to the second end. There are no more keys than nodes.
-fn listing(rt: &impl Print, image: Image, first: Cursor) -> Cursor {
+fn listing(rt: &impl Print, image: LentImage, first: Cursor) -> Cursor {
     let mut cursor = first;
     let mut ended = false;
     tell(rt, first);
@@ -76,12 +76,12 @@ fn listing(rt: &impl Print, image: Image, first: Cursor) -> Cursor {
     cursor
 }
 
-fn list(rt: &impl Print, image: Image, answer: Started) -> Option<Cursor> {
+fn list(rt: &impl Print, image: LentImage, answer: Started) -> Option<Cursor> {
     let first = started(rt, answer)?;
     Some(listing(rt, image, first))
 }
 
-fn step_once(rt: &impl Print, image: Image, cursor: Cursor) -> Option<Cursor> {
+fn step_once(rt: &impl Print, image: LentImage, cursor: Cursor) -> Option<Cursor> {
     let next = step(rt, image, cursor)?;
     tell(rt, next);
     Some(next)
@@ -109,7 +109,13 @@ fn made(rt: &impl Print, case: Case) -> Cursor {
 
 // The answer to a case that is a cursor's, and the cursor to go on with: a refusal leaves it as it was. No other case
 // writes anything.
-pub fn answer(rt: &impl Print, case: Case, query: &[u8], image: Image, cursor: Cursor) -> Cursor {
+pub fn answer(
+    rt: &impl Print,
+    case: Case,
+    query: &[u8],
+    image: LentImage,
+    cursor: Cursor,
+) -> Cursor {
     let next = match case.letter {
         b'f' => list(
             rt,

@@ -1,6 +1,6 @@
 // The cases of incremental searches. The place is handed in, and where it is left handed back.
 use crate::spelling::path;
-use replay::memory::{Image, LONGEST};
+use replay::memory::{LONGEST, LentImage};
 use replay::printing::{AT, BOTH, ERR, MATCH, NONE, OK, PREFIX, number, refused, text};
 use replay::text::Case;
 use trie::place::{Answer, Followed, Gone, Measured, Place, Queried, Resumed, Valued};
@@ -87,7 +87,7 @@ fn valued(rt: &impl Print, answer: Valued) {
 }
 
 // The length of the path, then the path.
-fn whole_prefix(rt: &impl Print, image: Image, place: Place) {
+fn whole_prefix(rt: &impl Print, image: LentImage, place: Place) {
     let answer = trie::place::prefix_len(image.labels, image.values, image.words, place);
     match answer {
         Measured::Length(length) => {
@@ -99,8 +99,8 @@ fn whole_prefix(rt: &impl Print, image: Image, place: Place) {
 }
 
 // The answer to a case that is a place's, and the place after it; no other case writes anything.
-pub fn answer(rt: &impl Print, case: Case, query: &[u8], image: Image, place: Place) -> Place {
-    let Image {
+pub fn answer(rt: &impl Print, case: Case, query: &[u8], image: LentImage, place: Place) -> Place {
+    let LentImage {
         labels,
         values,
         words,

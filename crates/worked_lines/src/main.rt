@@ -11,7 +11,7 @@ mod spelling;
 
 use held::Held;
 use replay::lists::read_lists;
-use replay::memory::{Image, LONGEST, Lent, Memory};
+use replay::memory::{LONGEST, Lent, LentImage, Memory};
 use replay::printing::byte;
 use replay::text::{Case, line_of};
 use replay::{images, remember};
@@ -20,7 +20,7 @@ use replay::{images, remember};
 const LIST_BYTES: usize = 655360;
 
 // The cases that read the image that is lent, and what is held after them.
-fn read(rt: &impl Print, case: Case, query: &[u8], image: Image, held: Held) -> Held {
+fn read(rt: &impl Print, case: Case, query: &[u8], image: LentImage, held: Held) -> Held {
     images::look(rt, case.letter, image);
     queries::answer(rt, case, query, image);
     spelling::answer(rt, case, query, image, held);

@@ -1,7 +1,7 @@
 // The cases of the searches with a query, over the image that is lent.
 ghost use Rattle.std.specs.Prelude.{◌≤◌};
 
-use replay::memory::{Image, Memory};
+use replay::memory::{LentImage, Memory};
 use replay::parts::part;
 use replay::printing::{BAR, NO, NONE, YES, byte, bytes, number, refused, text};
 use replay::text::Case;
@@ -24,13 +24,13 @@ fn say(rt: &impl Print, answer: Result<Option<u32>, u32>) {
     }
 }
 
-fn untested(image: Image, query: &[u8]) -> Result<Option<u32>, u32> {
+fn untested(image: LentImage, query: &[u8]) -> Result<Option<u32>, u32> {
     found(trie::exact_match_untested(image.labels, image.values, image.words, query))
 }
 
 // The exact match, and behind it what the lookup that does not test the image tells, if that is another answer of an
 // image that is accepted.
-fn exact(rt: &impl Print, image: Image, query: &[u8]) {
+fn exact(rt: &impl Print, image: LentImage, query: &[u8]) {
     let tested = found(trie::exact_match(image.labels, image.values, image.words, query));
     say(rt, tested);
     let other = untested(image, query);
@@ -63,13 +63,13 @@ fn left_out(t: u8) -> usize
 // The lookup that does not test the image, of every query of at most three letters `a` and `b`, with these bits for its
 // only word.
 // The queries are numbered from 1 to 15.
-fn table(rt: &impl Print, image: Image, bits: u32) {
+fn table(rt: &impl Print, image: LentImage, bits: u32) {
     let words = &[bits as u64];
     byte(rt, b' ');
     for t in 1u8..16 {
         let letters = [b'a' + t / 4 % 2, b'a' + t / 2 % 2, b'a' + t % 2];
         let query = &letters[left_out(t)..];
-        byte(rt, figure(untested(Image { words, ..image }, query)));
+        byte(rt, figure(untested(LentImage { words, ..image }, query)));
     }
 }
 
@@ -100,8 +100,8 @@ fn common(rt: &impl Print, answer: Common) -> Option<usize> {
     }
 }
 
-fn common_after(rt: &impl Print, image: Image, query: &[u8], seen: usize) -> Option<usize> {
-    let Image {
+fn common_after(rt: &impl Print, image: LentImage, query: &[u8], seen: usize) -> Option<usize> {
+    let LentImage {
         labels,
         values,
         words,
@@ -115,7 +115,7 @@ fn common_after(rt: &impl Print, image: Image, query: &[u8], seen: usize) -> Opt
 }
 
 // All of them: each is longer than the one before, so there are no more than the query has bytes.
-fn common_all(rt: &impl Print, image: Image, query: &[u8]) {
+fn common_all(rt: &impl Print, image: LentImage, query: &[u8]) {
     let mut seen = 0;
     for _ in 0..=query.len() {
         text(rt, BAR);
@@ -127,7 +127,7 @@ fn common_all(rt: &impl Print, image: Image, query: &[u8]) {
 }
 
 // The answer to a case that only reads; no other writes anything.
-pub fn answer(rt: &impl Print, case: Case, query: &[u8], image: Image) {
+pub fn answer(rt: &impl Print, case: Case, query: &[u8], image: LentImage) {
     let n = case.number as usize;
     match case.letter {
         b'e' | b'E' => exact(rt, image, query),

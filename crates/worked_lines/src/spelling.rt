@@ -1,6 +1,6 @@
 // The cases that write a key or prefix into a buffer.
 use crate::held::Held;
-use replay::memory::{Image, LONGEST};
+use replay::memory::{LONGEST, LentImage};
 use replay::parts::part;
 use replay::printing::{NONE, bytes, number, refused, text};
 use replay::text::Case;
@@ -50,7 +50,7 @@ fn spell<F: FnOnce(&mut [u8]) -> usize>(rt: &impl Print, room: usize, write: F)
 }
 
 // The longest prefix, into so many bytes.
-fn longest_prefix(rt: &impl Print, image: Image, query: &[u8], room: usize) {
+fn longest_prefix(rt: &impl Print, image: LentImage, query: &[u8], room: usize) {
     spell(rt, room, |out| {
         longest(
             rt,
@@ -60,7 +60,7 @@ fn longest_prefix(rt: &impl Print, image: Image, query: &[u8], room: usize) {
 }
 
 // The cursor's key, into so many bytes.
-pub fn key(rt: &impl Print, image: Image, cursor: Cursor, room: usize) {
+pub fn key(rt: &impl Print, image: LentImage, cursor: Cursor, room: usize) {
     spell(rt, room, |out| {
         spelled(
             rt,
@@ -70,7 +70,7 @@ pub fn key(rt: &impl Print, image: Image, cursor: Cursor, room: usize) {
 }
 
 // The place's path, into so many bytes.
-pub fn path(rt: &impl Print, image: Image, place: Place, room: usize) {
+pub fn path(rt: &impl Print, image: LentImage, place: Place, room: usize) {
     spell(rt, room, |out| {
         spelled(
             rt,
@@ -80,7 +80,7 @@ pub fn path(rt: &impl Print, image: Image, place: Place, room: usize) {
 }
 
 // The answer to a case that writes into a buffer; no other writes anything.
-pub fn answer(rt: &impl Print, case: Case, query: &[u8], image: Image, held: Held) {
+pub fn answer(rt: &impl Print, case: Case, query: &[u8], image: LentImage, held: Held) {
     let room = case.number as usize;
     match case.letter {
         b'l' => longest_prefix(rt, image, query, LONGEST),

@@ -1,14 +1,14 @@
 -- What the functions that read digits answer. Assumes nothing.
-use Rattle.std.specs.Prelude.{ℕ, cond, List}
-use Rattle.std.proofs.Math.Option.{Option, none, some}
+use Rattle.std.specs.Prelude.{ℕ, cond, List, Option, Some, None}
+use Rattle.std.proofs.Math.Option.{none, some}
+use Rattle.std.proofs.Math.Option.{Option as Maybe}
 use Rattle.lines.specs.Decimal.{are_digits, value_after}
-use Rattle.lines.specs.declared.decimal.Numeral.{Numeral}
-use Rattle.lines.specs.declared.decimal.Digits.{Digits}
 
 -- the number, if the text obeys the rule
-abbrev pub spelled : Numeral → Option ℕ
-spelled (Numeral.Number v) = some v
-spelled Numeral.Broken = none
+abbrev pub spelled : Option ℕ → Maybe ℕ
+spelled (Some v) = some v
+spelled None = none
 
-unfoldable pub digits_in : List ℕ → Digits
-digits_in t = cond (are_digits t) (Digits.Value (value_after 0 t)) Digits.Other
+-- what digits stand for, if they are digits
+unfoldable pub digits_in : List ℕ → Option ℕ
+digits_in t = cond (are_digits t) (Some (value_after 0 t)) None

@@ -27,14 +27,12 @@ impl Parsed {
     }
 }
 
-// Of `next_line`.
+// A line that `next_line` cut out of a text: it goes from the position up to, not including, `end`, where its LF or
+// the text's end is; the next line begins at `next`.
 #[derive(Clone, Copy)]
-pub enum Cut {
-    // The line goes from the position up to, not including, `end`, where its LF or the text's end is; the next line
-    // begins at `next`.
-    Line { end: usize, next: usize },
-    // The position is at the text's end or past it.
-    NoLine,
+pub struct Line {
+    pub end: usize,
+    pub next: usize,
 }
 
 // Of `write_line`.

@@ -14,28 +14,27 @@ ghost use Rattle.lines.specs.TabLine.{tab_line_says, tab_line_key};
 ghost use Rattle.lines.specs.Text.{next_line_says};
 ghost use Rattle.lines.specs.Writing.{write_line_says, write_line_out};
 
-use crate::answers::{Cut, Parsed, Written};
+use crate::answers::{Line, Parsed, Written};
 use crate::bytes::{LF, TAB, find};
-use crate::decimal::{Numeral, digit_count, number_in};
+use crate::decimal::{digit_count, number_in};
 use crate::writing::put_line;
 
 // Reads a line, which is given without its LF.
 pub fn tab_line(line: &[u8]) -> Parsed
     ensures { said_parsed result ≡ tab_line_says line.now }
 {
-    let tab = find(line, 0, TAB);
-    if line.len() <= tab {
+    let Some(tab) = find(line, TAB) else {
         return Parsed::BadLine;
-    }
-    if find(line, 0, LF) < tab {
+    };
+    if find(&line[..tab], LF).is_some() {
         return Parsed::BadLine;
     }
     match number_in(&line[tab + 1..]) {
-        Numeral::Number(number) => Parsed::Entry {
+        Some(number) => Parsed::Entry {
             key_len: tab,
             number,
         },
-        Numeral::Broken => Parsed::BadLine,
+        None => Parsed::BadLine,
     }
 }
 
@@ -50,18 +49,19 @@ pub fn tab_line_key(line: &[u8]) -> &[u8]
     }
 }
 
-// Cuts the line that begins at a position out of a text.
-pub fn next_line(text: &[u8], at: usize) -> Cut
+// Cuts the line that begins at a position out of a text. There is none at the text's end or past it.
+pub fn next_line(text: &[u8], at: usize) -> Option<Line>
     ensures { said_cut result ≡ next_line_says text.now at }
 {
     if text.len() <= at {
-        return Cut::NoLine;
+        return None;
     }
-    let end = find(text, at, LF);
-    if end < text.len() {
-        return Cut::Line { end, next: end + 1 };
-    }
-    Cut::Line { end, next: end }
+    let Some(length) = find(&text[at..], LF) else {
+        let end = text.len();
+        return Some(Line { end, next: end });
+    };
+    let end = at + length;
+    Some(Line { end, next: end + 1 })
 }
 
 // Writes the line of an entry, with its LF, at the start of the buffer.

@@ -3,7 +3,7 @@ use mathlib.Core.Path.{◌≡◌, refl}
 use Prim.Native.Nat.{ℕ, ◌≤◌}
 use mathlib.Core.Bool.{true, false}
 use mathlib.Core.List.{List, [], ◌∷◌, map}
-use mathlib.Core.Option.{none, some}
+use Rattle.std.specs.Prelude.{None, Some}
 use Prim.Native.String.{String}
 use native.Mathlib.Omega.{arith}
 use lib.ListN.{length}
@@ -41,11 +41,11 @@ texts =
     ∷ ("\t03\n", "refused 9 line 1\n")
     ∷ []
 
-pub worked-texts : map (λ (t : Text). program_text (some (ascii t.0))) texts ≡ map (λ (t : Text). ascii t.1) texts
+pub worked-texts : map (λ (t : Text). program_text (Some (ascii t.0))) texts ≡ map (λ (t : Text). ascii t.1) texts
 unfolding ascii compare_keys insert insert_all level deepest levels prefixes holds stretch decimal_from decimal are_digits value_after leading_zero is_decimal number_in key_part number_part tab_entry lines_of entry_lines tab_line tab_text map_text text_from text_says entries_in refused_text program_text
 worked-texts = refl
 
-pub worked-no-file : program_text none ≡ ascii "no file\n"
+pub worked-no-file : program_text None ≡ ascii "no file\n"
 unfolding ascii program_text
 worked-no-file = refl
 
@@ -54,12 +54,12 @@ unfolding ascii decimal_from decimal refused_text
 worked-no-room = refl
 
 -- 65,537 bytes are too long
-pub worked-too-long : (text : List ℕ) → 65537 ≤ length text → program_text (some text) ≡ ascii "too long\n"
+pub worked-too-long : (text : List ℕ) → 65537 ≤ length text → program_text (Some text) ≡ ascii "too long\n"
 unfolding ascii text_says program_text
 worked-too-long text h = rw (lt-ltb 65536 (length text) (omega (arith, h)))
 
 -- 65,536 are not, and what is said of them is said of room for 2,048 records
-pub worked-limits : (text : List ℕ) → length text ≤ 65536 → program_text (some text) ≡ answer_text (text_map text) (text_from 2048 1 [] (entry_lines text))
+pub worked-limits : (text : List ℕ) → length text ≤ 65536 → program_text (Some text) ≡ answer_text (text_map text) (text_from 2048 1 [] (entry_lines text))
 unfolding text_says program_text
 worked-limits text h = rw (le-ltb 65536 (length text) h)
 

@@ -8,8 +8,7 @@
 --     fill_pool              what a pool is after a reset and the lines of a text
 --     HeldIf                 what the pool then holds
 -- Assumes nothing.
-use Rattle.std.specs.Prelude.{ℕ, suc, ◌≡◌, cond, List, [], ◌∷◌, ◌++◌}
-use Rattle.std.proofs.Math.Option.{Option, none, some}
+use Rattle.std.specs.Prelude.{ℕ, suc, ◌≡◌, cond, List, [], ◌∷◌, ◌++◌, Option, None, Some}
 use Rattle.keymap.specs.Map.{Entry}
 use Rattle.keymap.specs.Refusals.{Refusal, refuses}
 use Rattle.records.specs.Words.{Pool}
@@ -28,12 +27,12 @@ said_filled Filled.Done = 0 ∷ []
 said_filled (Filled.Refused number line) = number ∷ line ∷ []
 
 abbrev pub line_says : Pool → Option Entry → List ℕ
-line_says p none = refuses Refusal.BadLine
-line_says p (some e) = push_says p e.0
+line_says p None = refuses Refusal.BadLine
+line_says p (Some e) = push_says p e.0
 
 abbrev pub line_pool : Pool → Option Entry → Pool
-line_pool p none = p
-line_pool p (some e) = push_pool p e.0 e.1
+line_pool p None = p
+line_pool p (Some e) = push_pool p e.0 e.1
 
 unfoldable pub fill_from : ℕ → Pool → List (List ℕ) → List ℕ
 fill_from n p [] = 0 ∷ []

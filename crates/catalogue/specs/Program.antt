@@ -5,8 +5,7 @@
 --                    line number from 1, LF"; else "the listing in the same form, each line with LF"
 --     answer_text    the same of a text that was read, by what it is answered
 -- Assumes nothing.
-use Rattle.std.specs.Prelude.{ℕ, List, [], ◌∷◌, ◌++◌}
-use Rattle.std.proofs.Math.Option.{Option, none, some}
+use Rattle.std.specs.Prelude.{ℕ, List, [], ◌∷◌, ◌++◌, Option, None, Some}
 use Rattle.keymap.specs.Map.{Map}
 use Rattle.lines.specs.Bytes.{line_feed}
 use Rattle.lines.specs.Decimal.{decimal}
@@ -41,5 +40,5 @@ answer_text m (n ∷ []) = map_text m
 answer_text m (n ∷ l ∷ ns) = refused_text n l
 
 unfoldable pub program_text : Option (List ℕ) → List ℕ
-program_text none = no_file_text
-program_text (some text) = answer_text (text_map text) (text_says program_capacity text)
+program_text None = no_file_text
+program_text (Some text) = answer_text (text_map text) (text_says program_capacity text)

@@ -6,8 +6,7 @@
 --     next_at        where the next read goes, and `Finished`: none is wanted
 --     what_read      the bytes of the file, as far as the room goes; none where it could not be read
 -- Assumes nothing.
-use Rattle.std.specs.Prelude.{ℕ, zero, suc, ◌+◌, ◌≤◌, true, false, cond, List, take, ltb, ℤ, pos, negsuc}
-use Rattle.std.proofs.Math.Option.{Option, none, some}
+use Rattle.std.specs.Prelude.{ℕ, zero, suc, ◌+◌, ◌≤◌, true, false, cond, List, take, ltb, ℤ, pos, negsuc, Option, None, Some}
 use Rattle.catalogue.specs.declared.reading.Reading.{Reading}
 use Rattle.catalogue.specs.Limits.{file_limit}
 
@@ -37,4 +36,4 @@ Finished r = file_room ≤ next_at r
 
 -- a file that was not read to its end was not read
 abbrev pub what_read : Reading → List ℕ → Option (List ℕ)
-what_read r room = cond r.whole (some (take r.done room)) none
+what_read r room = cond r.whole (Some (take r.done room)) None

@@ -5,8 +5,7 @@
 --                    build writes anything; `built_from`: by what a contract names
 --     RoomsLeft      what a call leaves: the bytes written, and each room
 -- Assumes nothing.
-use Rattle.std.specs.Prelude.{◌≡◌, cond, List, [], ℕ, length, ltb}
-use Rattle.std.proofs.Math.Option.{Option, none, some}
+use Rattle.std.specs.Prelude.{◌≡◌, cond, List, [], ℕ, length, ltb, Option, None, Some}
 use Rattle.std.specs.Borrow.{Bor, MutBor}
 use denote.Triple.Both.{Both}
 use Rattle.keymap.specs.Buffers.{over}
@@ -21,12 +20,12 @@ use Rattle.catalogue.specs.TextAnswers.{text_says}
 use Rattle.catalogue.specs.Program.{program_text}
 
 unfoldable pub program_pool : Option (List ℕ) → Pool → Pool
-program_pool none p = p
-program_pool (some text) p = cond (ltb file_limit (length text)) p (fill_pool p text)
+program_pool None p = p
+program_pool (Some text) p = cond (ltb file_limit (length text)) p (fill_pool p text)
 
 unfoldable pub built_pool : Option (List ℕ) → Pool → Pool
-built_pool none p = []
-built_pool (some text) p = cond (accepted (text_says program_capacity text)) (fill_pool p text) []
+built_pool None p = []
+built_pool (Some text) p = cond (accepted (text_says program_capacity text)) (fill_pool p text) []
 
 -- the same, of a file's bytes and a pool as they were lent to a call
 abbrev pub built_from : {X Y : Type 0} → Reading → Both (Bor (List ℕ)) X → Both (MutBor (List ℕ)) Y → Pool

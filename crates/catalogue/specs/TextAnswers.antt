@@ -11,8 +11,7 @@
 --     entries_in                     the entries of lines, and `AllEntries`: each has one, and of a nonempty key
 --     text_map                       the map of a text's entries
 -- Assumes nothing.
-use Rattle.std.specs.Prelude.{ℕ, suc, ◌≡◌, cond, List, [], ◌∷◌, ◌++◌, length, ltb}
-use Rattle.std.proofs.Math.Option.{Option, none, some}
+use Rattle.std.specs.Prelude.{ℕ, suc, ◌≡◌, cond, List, [], ◌∷◌, ◌++◌, length, ltb, Option, None, Some}
 use Rattle.keymap.specs.Map.{Entry, Map, insert, insert_all}
 use Rattle.keymap.specs.Refusals.{Refusal, refuses}
 use Rattle.pool.specs.Answers.{accepted}
@@ -23,12 +22,12 @@ use Rattle.catalogue.specs.Limits.{file_limit}
 
 -- where there is room for `most` records
 abbrev pub map_line_says : ℕ → Map → Option Entry → List ℕ
-map_line_says most m none = refuses Refusal.BadLine
-map_line_says most m (some e) = map_says most m (PoolCall.push e.0 e.1)
+map_line_says most m None = refuses Refusal.BadLine
+map_line_says most m (Some e) = map_says most m (PoolCall.push e.0 e.1)
 
 abbrev pub map_line_after : Map → Option Entry → Map
-map_line_after m none = m
-map_line_after m (some e) = insert e.0 e.1 m
+map_line_after m None = m
+map_line_after m (Some e) = insert e.0 e.1 m
 
 unfoldable pub text_from : (most n : ℕ) → Map → List (List ℕ) → List ℕ
 text_from most n m [] = 0 ∷ []
@@ -43,8 +42,8 @@ text_says most text = cond (ltb file_limit (length text)) [] (text_from most 1 [
 
 -- a line that breaks the rule has none
 abbrev pub with_entry : Option Entry → List Entry → List Entry
-with_entry none es = es
-with_entry (some e) es = e ∷ es
+with_entry None es = es
+with_entry (Some e) es = e ∷ es
 
 unfoldable pub entries_in : List (List ℕ) → List Entry
 entries_in [] = []
@@ -53,7 +52,7 @@ entries_in (l ∷ ls) = with_entry (tab_entry l) (entries_in ls)
 -- every line is an entry, and of a key that is not empty
 abbrev pub AllEntries : List (List ℕ) → Type 0
 AllEntries [] = Unit {0}
-AllEntries (l ∷ ls) = ((e : Entry) × (tab_entry l ≡ some e) × (¬ (e.0 ≡ []))) × AllEntries ls
+AllEntries (l ∷ ls) = ((e : Entry) × (tab_entry l ≡ Some e) × (¬ (e.0 ≡ []))) × AllEntries ls
 
 -- each key with its last value
 abbrev pub text_map : List ℕ → Map

@@ -5,8 +5,7 @@
 --     Whole           a text whose lines are all pushed
 --     FirstRefusal    "The first refusal stops it": a line that has a cause, behind lines that are all pushed
 -- Assumes nothing.
-use Rattle.std.specs.Prelude.{ℕ, ◌≤◌, ◌<◌, ◌≡◌, List, [], ◌∷◌, ◌++◌, length}
-use Rattle.std.proofs.Math.Option.{none, some}
+use Rattle.std.specs.Prelude.{ℕ, ◌≤◌, ◌<◌, ◌≡◌, List, [], ◌∷◌, ◌++◌, length, None, Some}
 use Rattle.keymap.specs.Map.{Entry, Map, insert, insert_all}
 use Rattle.keymap.specs.Prefixes.{prefixes}
 use Rattle.keymap.specs.Refusals.{Refusal, refusal_number}
@@ -16,10 +15,10 @@ use Rattle.catalogue.specs.Limits.{file_limit}
 use Rattle.catalogue.specs.TextAnswers.{entries_in, AllEntries, text_map}
 
 pub data Cause (most : ℕ) (m : Map) (l : List ℕ) (number : ℕ) : Type 0 where
-  bad : tab_entry l ≡ none → number ≡ refusal_number Refusal.BadLine → Cause most m l number
-  empty_key : (e : Entry) → tab_entry l ≡ some e → e.0 ≡ [] → number ≡ refusal_number Refusal.EmptyKey
+  bad : tab_entry l ≡ None → number ≡ refusal_number Refusal.BadLine → Cause most m l number
+  empty_key : (e : Entry) → tab_entry l ≡ Some e → e.0 ≡ [] → number ≡ refusal_number Refusal.EmptyKey
       → Cause most m l number
-  no_room : (e : Entry) → tab_entry l ≡ some e → ¬ (e.0 ≡ []) → most < length (prefixes (insert e.0 e.1 m))
+  no_room : (e : Entry) → tab_entry l ≡ Some e → ¬ (e.0 ≡ []) → most < length (prefixes (insert e.0 e.1 m))
       → number ≡ refusal_number Refusal.NoRoom
       → Cause most m l number
 

@@ -10,17 +10,10 @@
 --     advance_from   the next perch below a top
 --     moved_at       the perch at the node where a move ended
 -- Assumes nothing.
-use Rattle.std.specs.Prelude.{ℕ, zero, suc, ◌+◌, ◌-◌, Bool, cond, ◌&&◌, eqb, ltb, leb}
-use Rattle.std.proofs.Math.Option.{Option, none, some}
-use Rattle.louds.specs.declared.answers.Spot.{Spot}
-use Rattle.louds.specs.declared.answers.Spot.TheVariants.{At, Missing}
+use Rattle.std.specs.Prelude.{ℕ, zero, suc, ◌+◌, ◌-◌, Bool, cond, ◌&&◌, eqb, ltb, leb, Option, None, Some}
 use Rattle.louds.specs.Select.{zero_from}
 use Rattle.walks.specs.Rule.{counts_to}
 use Rattle.climbs.specs.declared.perches.Perch.{Perch}
-use Rattle.climbs.specs.declared.perches.Rise.{Rise}
-use Rattle.climbs.specs.declared.perches.Rise.TheVariants.{Parent, NoParent}
-use Rattle.climbs.specs.declared.order.Moved.{Moved}
-use Rattle.climbs.specs.declared.order.Moved.TheVariants.{To, Nowhere}
 use Rattle.climbs.specs.Perches.{perch_at, parent_from}
 use Rattle.climbs.specs.Order.{one_behind}
 
@@ -29,39 +22,39 @@ unfoldable pub leads : ℕ → ℕ → ℕ → Bool
 leads len m p = ltb p len && (leb 1 m && (leb m (p + 1) && ltb (p + 1 - m) m))
 
 -- the first child of node m, whose zero is at a place
-abbrev pub behind_zero : (ℕ → ℕ) → ℕ → ℕ → ℕ → Spot → Moved
-behind_zero b len last m Missing = Nowhere
-behind_zero b len last m (At z) =
-    cond (one_behind b len z && counts_to last m (z + 2 - m)) (To (record { node = z + 2 - m; one = z + 1 })) Nowhere
+abbrev pub behind_zero : (ℕ → ℕ) → ℕ → ℕ → ℕ → (Option ℕ) → (Option Perch)
+behind_zero b len last m None = None
+behind_zero b len last m (Some z) =
+    cond (one_behind b len z && counts_to last m (z + 2 - m)) (Some (record { node = z + 2 - m; one = z + 1 })) None
 
-unfoldable pub first_from : (ℕ → ℕ) → ℕ → ℕ → Perch → Moved
+unfoldable pub first_from : (ℕ → ℕ) → ℕ → ℕ → Perch → (Option Perch)
 first_from b len last at =
     cond (leads len at.node at.one)
-    (behind_zero b len last at.node (zero_from b len at.one (at.node - (at.one + 1 - at.node)))) Nowhere
+    (behind_zero b len last at.node (zero_from b len at.one (at.node - (at.one + 1 - at.node)))) None
 
-unfoldable pub beside_from : (ℕ → ℕ) → ℕ → ℕ → Perch → Moved
+unfoldable pub beside_from : (ℕ → ℕ) → ℕ → ℕ → Perch → (Option Perch)
 beside_from b len last at =
     cond (ltb at.node last && one_behind b len at.one)
-    (To (record { node = at.node + 1; one = at.one + 1 })) Nowhere
+    (Some (record { node = at.node + 1; one = at.one + 1 })) None
 
-abbrev pub or_moved : Moved → Moved → Moved
-or_moved (To p) r = To p
-or_moved Nowhere r = r
+abbrev pub or_moved : (Option Perch) → (Option Perch) → (Option Perch)
+or_moved (Some p) r = Some p
+or_moved None r = r
 
 -- from where a climb is, up to the top; the last number bounds the steps
-unfoldable pub climbed_rise : (ℕ → ℕ) → ℕ → ℕ → ℕ → ℕ → Rise → Moved
-climbed_rise b len last top zero at = Nowhere
-climbed_rise b len last top (suc left) NoParent = Nowhere
-climbed_rise b len last top (suc left) (Parent at) =
-    cond (eqb at.node top) Nowhere
+unfoldable pub climbed_rise : (ℕ → ℕ) → ℕ → ℕ → ℕ → ℕ → (Option Perch) → (Option Perch)
+climbed_rise b len last top zero at = None
+climbed_rise b len last top (suc left) None = None
+climbed_rise b len last top (suc left) (Some at) =
+    cond (eqb at.node top) None
     (or_moved (beside_from b len last at) (climbed_rise b len last top left (parent_from b len at)))
 
-unfoldable pub climb_from : (ℕ → ℕ) → ℕ → ℕ → ℕ → Perch → Moved
-climb_from b len last top at = climbed_rise b len last top (suc at.node) (Parent at)
+unfoldable pub climb_from : (ℕ → ℕ) → ℕ → ℕ → ℕ → Perch → (Option Perch)
+climb_from b len last top at = climbed_rise b len last top (suc at.node) (Some at)
 
-abbrev pub advance_from : (ℕ → ℕ) → ℕ → ℕ → ℕ → Perch → Moved
+abbrev pub advance_from : (ℕ → ℕ) → ℕ → ℕ → ℕ → Perch → (Option Perch)
 advance_from b len last top at = or_moved (first_from b len last at) (climb_from b len last top at)
 
-abbrev pub moved_at : (ℕ → ℕ) → ℕ → Option ℕ → Moved
-moved_at b len none = Nowhere
-moved_at b len (some k) = To (perch_at b len k)
+abbrev pub moved_at : (ℕ → ℕ) → ℕ → Option ℕ → (Option Perch)
+moved_at b len None = None
+moved_at b len (Some k) = Some (perch_at b len k)

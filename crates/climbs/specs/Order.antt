@@ -11,17 +11,13 @@
 --     UnderTop       a node of a map is at or below a top
 --     given_by       an entry of the map as its node's number and value
 -- Assumes nothing.
-use Rattle.std.specs.Prelude.{ℕ, zero, suc, ◌+◌, Bool, cond, ◌&&◌, List, length, eqb, ltb}
-use Rattle.std.proofs.Math.Option.{Option, none, some}
+use Rattle.std.specs.Prelude.{ℕ, zero, suc, ◌+◌, Bool, cond, ◌&&◌, List, length, eqb, ltb, Option, None, Some}
 use Rattle.keymap.specs.Key.{PrefixOf}
 use Rattle.keymap.specs.Map.{Entry, Map}
 use Rattle.keymap.specs.Paths.{IsNode, path_of, node_of}
-use Rattle.louds.specs.declared.answers.Spot.{Spot}
-use Rattle.louds.specs.declared.answers.Spot.TheVariants.{At, Missing}
 use Rattle.louds.specs.declared.answers.Children.{Children}
-use Rattle.louds.specs.declared.answers.Children.TheVariants.{Run, NoNode}
 use Rattle.louds.specs.Select.{one_at}
-use Rattle.louds.specs.Nodes.{children_of}
+use Rattle.louds.specs.Nodes.{Run, children_of}
 use Rattle.walks.specs.Rule.{counts_to, value_of_node}
 use Rattle.climbs.specs.Perches.{parent_by}
 use Rattle.climbs.specs.declared.order.Given.{Given}
@@ -29,12 +25,12 @@ use Rattle.climbs.specs.declared.order.Given.TheVariants as gives
 
 -- the first of two that is there
 abbrev pub or_else : {A : Type 0} → Option A → Option A → Option A
-or_else (some k) o = some k
-or_else none o = o
+or_else (Some k) o = Some k
+or_else None o = o
 
-abbrev pub first_of : ℕ → ℕ → Children → Option ℕ
-first_of last k NoNode = none
-first_of last k (Run first count) = cond (ltb 0 count && counts_to last k first) (some first) none
+abbrev pub first_of : ℕ → ℕ → Option Children → Option ℕ
+first_of last k None = None
+first_of last k (Run first count) = cond (ltb 0 count && counts_to last k first) (Some first) None
 
 unfoldable pub first_by : (ℕ → ℕ) → ℕ → ℕ → ℕ → Option ℕ
 first_by b len last k = first_of last k (children_of b len k)
@@ -43,36 +39,36 @@ unfoldable pub one_behind : (ℕ → ℕ) → ℕ → ℕ → Bool
 one_behind b len p = ltb (p + 1) len && eqb (b (p + 1)) 1
 
 -- the ones of siblings stand together, and their numbers run on
-abbrev pub beside_of : (ℕ → ℕ) → ℕ → ℕ → ℕ → Spot → Option ℕ
-beside_of b len last k Missing = none
-beside_of b len last k (At p) = cond (ltb k last && one_behind b len p) (some (k + 1)) none
+abbrev pub beside_of : (ℕ → ℕ) → ℕ → ℕ → ℕ → (Option ℕ) → Option ℕ
+beside_of b len last k None = None
+beside_of b len last k (Some p) = cond (ltb k last && one_behind b len p) (Some (k + 1)) None
 
 unfoldable pub beside_by : (ℕ → ℕ) → ℕ → ℕ → ℕ → Option ℕ
 beside_by b len last k = beside_of b len last k (one_at b len k)
 
 -- from where a climb is, up to the top; the last number bounds the steps
 unfoldable pub climbed_from : (ℕ → ℕ) → ℕ → ℕ → ℕ → ℕ → Option ℕ → Option ℕ
-climbed_from b len last top zero at = none
-climbed_from b len last top (suc left) none = none
-climbed_from b len last top (suc left) (some k) =
-    cond (eqb k top) none (or_else (beside_by b len last k) (climbed_from b len last top left (parent_by b len k)))
+climbed_from b len last top zero at = None
+climbed_from b len last top (suc left) None = None
+climbed_from b len last top (suc left) (Some k) =
+    cond (eqb k top) None (or_else (beside_by b len last k) (climbed_from b len last top left (parent_by b len k)))
 
 -- a parent's number is below its child's, so the node's own bounds the climb
 unfoldable pub climb_by : (ℕ → ℕ) → ℕ → ℕ → ℕ → ℕ → Option ℕ
-climb_by b len last top k = climbed_from b len last top (suc k) (some k)
+climb_by b len last top k = climbed_from b len last top (suc k) (Some k)
 
 unfoldable pub advance_by : (ℕ → ℕ) → ℕ → ℕ → ℕ → ℕ → Option ℕ
 advance_by b len last top k = or_else (first_by b len last k) (climb_by b len last top k)
 
 abbrev pub with_value : ℕ → Option ℕ → Option (ℕ × ℕ)
-with_value k none = none
-with_value k (some v) = some (k, v)
+with_value k None = None
+with_value k (Some v) = Some (k, v)
 
 -- from where a search is; the number before it bounds the steps
 unfoldable pub sought_from : List ℕ → List ℕ → (ℕ → ℕ) → ℕ → ℕ → ℕ → Option ℕ → Option (ℕ × ℕ)
-sought_from ls vs b len top zero at = none
-sought_from ls vs b len top (suc left) none = none
-sought_from ls vs b len top (suc left) (some k) =
+sought_from ls vs b len top zero at = None
+sought_from ls vs b len top (suc left) None = None
+sought_from ls vs b len top (suc left) (Some k) =
     or_else (with_value k (value_of_node ls vs k))
     (sought_from ls vs b len top left (advance_by b len (length ls + 1) top k))
 
@@ -81,8 +77,8 @@ unfoldable pub next_by : List ℕ → List ℕ → (ℕ → ℕ) → ℕ → ℕ
 next_by ls vs b len top k = sought_from ls vs b len top (length ls + 1) (advance_by b len (length ls + 1) top k)
 
 abbrev pub given_of : Option (ℕ × ℕ) → Given
-given_of none = gives.Nothing
-given_of (some e) = gives.Entry e.0 e.1
+given_of None = gives.Nothing
+given_of (Some e) = gives.Entry e.0 e.1
 
 pub record UnderTop (m : Map) (top node : ℕ) : Type 0 where
   pub top-inside : IsNode m top
@@ -90,5 +86,5 @@ pub record UnderTop (m : Map) (top node : ℕ) : Type 0 where
   pub begins : PrefixOf (path_of m top) (path_of m node)
 
 abbrev pub given_by : Map → Option Entry → Given
-given_by m none = gives.Nothing
-given_by m (some e) = gives.Entry (node_of m e.0) e.1
+given_by m None = gives.Nothing
+given_by m (Some e) = gives.Entry (node_of m e.0) e.1

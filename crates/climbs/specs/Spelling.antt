@@ -6,8 +6,7 @@
 --     spelled_to     the buffer with those written to its front
 --     said_spelled   the answer of a call that writes a path, in 01's numbers
 -- Assumes nothing.
-use Rattle.std.specs.Prelude.{ℕ, zero, suc, ◌+◌, ◌-◌, Bool, cond, ◌&&◌, List, [], ◌∷◌, ◌++◌, length, get_or, drop, set, leb}
-use Rattle.std.proofs.Math.Option.{Option, none, some}
+use Rattle.std.specs.Prelude.{ℕ, zero, suc, ◌+◌, ◌-◌, Bool, cond, ◌&&◌, List, [], ◌∷◌, ◌++◌, length, get_or, drop, set, leb, Option, None, Some}
 use Rattle.keymap.specs.Key.{Key}
 use Rattle.keymap.specs.Label.{label_in}
 use Rattle.keymap.specs.Refusals.{refuses, NotAnImage, BadPlace, KeyRoom}
@@ -23,14 +22,14 @@ has_entry n m = leb 2 m && leb m (n + 1)
 -- where there is no parent
 unfoldable pub spelled_from : List ℕ → (ℕ → ℕ) → ℕ → ℕ → Option ℕ → List ℕ → List ℕ
 spelled_from ls b len zero at out = out
-spelled_from ls b len (suc left) none out = out
-spelled_from ls b len (suc left) (some k) out =
+spelled_from ls b len (suc left) None out = out
+spelled_from ls b len (suc left) (Some k) out =
     cond (has_entry (length ls) k)
     (spelled_from ls b len left (parent_by b len k) (set out left (label_in (get_or ls (k - 2) 0)))) out
 
 -- a buffer shorter than what is to be written stays as it is
 unfoldable pub spelled_by : List ℕ → (ℕ → ℕ) → ℕ → ℕ → ℕ → List ℕ → List ℕ
-spelled_by ls b len k count out = cond (leb count (length out)) (spelled_from ls b len count (some k) out) out
+spelled_by ls b len k count out = cond (leb count (length out)) (spelled_from ls b len count (Some k) out) out
 
 -- the last n bytes of a path
 unfoldable pub last_bytes : ℕ → Key → Key

@@ -3,7 +3,7 @@ ghost use Rattle.std.specs.Prelude.{◌≡◌};
 ghost use Rattle.keymap.specs.Bits.{bit};
 ghost use Rattle.climbs.specs.Below.{below_by};
 
-use crate::perches::{Rise, parent_of, perch_at};
+use crate::perches::{parent_of, perch_at};
 
 // Whether a node is the top or below it: ancestors have lower numbers, so the climb ends at the first that is not above
 // the top's.
@@ -12,7 +12,7 @@ pub fn is_below(words: &[u64], len: usize, top: usize, node: usize) -> bool
 {
     let mut at = perch_at(words, len, node);
     while top < at.node {
-        let Rise::Parent(up) = parent_of(words, len, at) else {
+        let Some(up) = parent_of(words, len, at) else {
             return false;
         };
         at = up;

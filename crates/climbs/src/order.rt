@@ -10,15 +10,9 @@ ghost use Rattle.keymap.specs.Bits.{bit};
 ghost use Rattle.climbs.specs.Order.{one_behind, next_by, given_of};
 ghost use Rattle.climbs.specs.Moves.{leads, first_from, beside_from, climb_from, advance_from};
 
-use crate::perches::{Perch, Rise, parent_of, perch_at};
-use louds::{Spot, bit_at, zero_from};
-use walks::entries::{Held, counts_to, value_at};
-
-#[derive(Clone, Copy)]
-enum Moved {
-    To(Perch),
-    Nowhere,
-}
+use crate::perches::{Perch, parent_of, perch_at};
+use louds::{bit_at, zero_from};
+use walks::entries::{counts_to, value_at};
 
 #[derive(Clone, Copy)]
 pub enum Given {
@@ -58,40 +52,40 @@ fn leads_down(len: usize, node: usize, one: usize) -> bool
 }
 
 // The first child of a node. Its one stands right behind the node's zero, which lies ahead of the node's one.
-fn first_child(words: &[u64], len: usize, last: usize, at: Perch) -> Moved
+fn first_child(words: &[u64], len: usize, last: usize, at: Perch) -> Option<Perch>
     ensures { result ≡ first_from (bit words.now) len last at }
 {
     if !leads_down(len, at.node, at.one) {
-        return Moved::Nowhere;
+        return None;
     }
     let before = at.one + 1 - at.node;
-    let Spot::At(zero) = zero_from(words, len, at.one, at.node - before) else {
-        return Moved::Nowhere;
+    let Some(zero) = zero_from(words, len, at.one, at.node - before) else {
+        return None;
     };
     if !one_behind(words, len, zero) {
-        return Moved::Nowhere;
+        return None;
     }
     let child = zero + 2 - at.node;
     if !counts_to(last, at.node, child) {
-        return Moved::Nowhere;
+        return None;
     }
-    Moved::To(Perch {
+    Some(Perch {
         node: child,
         one: zero + 1,
     })
 }
 
 // The next sibling of a node. Its one stands right behind the node's own.
-fn beside(words: &[u64], len: usize, last: usize, at: Perch) -> Moved
+fn beside(words: &[u64], len: usize, last: usize, at: Perch) -> Option<Perch>
     ensures { result ≡ beside_from (bit words.now) len last at }
 {
     if last <= at.node {
-        return Moved::Nowhere;
+        return None;
     }
     if !one_behind(words, len, at.one) {
-        return Moved::Nowhere;
+        return None;
     }
-    Moved::To(Perch {
+    Some(Perch {
         node: at.node + 1,
         one: at.one + 1,
     })
@@ -99,30 +93,30 @@ fn beside(words: &[u64], len: usize, last: usize, at: Perch) -> Moved
 
 // The next node behind a node that has no child: the next sibling of the nearest of the node and its ancestors that has
 // one. At the top the climb ends.
-fn climb(words: &[u64], len: usize, last: usize, top: usize, from: Perch) -> Moved
+fn climb(words: &[u64], len: usize, last: usize, top: usize, from: Perch) -> Option<Perch>
     ensures { result ≡ climb_from (bit words.now) len last top from }
 {
     let mut at = from;
     while at.node != top {
         match beside(words, len, last, at) {
-            Moved::To(next) => return Moved::To(next),
-            Moved::Nowhere => {}
+            Some(next) => return Some(next),
+            None => {}
         }
-        let Rise::Parent(up) = parent_of(words, len, at) else {
-            return Moved::Nowhere;
+        let Some(up) = parent_of(words, len, at) else {
+            return None;
         };
         at = up;
     }
-    Moved::Nowhere
+    None
 }
 
 // The next node in byte order below a top.
-fn advance(words: &[u64], len: usize, last: usize, top: usize, at: Perch) -> Moved
+fn advance(words: &[u64], len: usize, last: usize, top: usize, at: Perch) -> Option<Perch>
     ensures { result ≡ advance_from (bit words.now) len last top at }
 {
     match first_child(words, len, last, at) {
-        Moved::To(child) => Moved::To(child),
-        Moved::Nowhere => climb(words, len, last, top, at),
+        Some(child) => Some(child),
+        None => climb(words, len, last, top, at),
     }
 }
 
@@ -144,17 +138,17 @@ pub fn next_valued(
     let mut at = perch_at(words, len, node);
     let mut left = last;
     while 0 < left {
-        let Moved::To(next) = advance(words, len, last, top, at) else {
+        let Some(next) = advance(words, len, last, top, at) else {
             return Given::Nothing;
         };
         match value_at(labels, values, next.node) {
-            Held::Value(value) => {
+            Some(value) => {
                 return Given::Entry {
                     node: next.node,
                     value,
                 };
             }
-            Held::NoValue => at = next,
+            None => at = next,
         }
         left -= 1;
     }

@@ -6,7 +6,7 @@ ghost use Rattle.std.specs.Prelude.{◌≡◌};
 ghost use Rattle.keymap.specs.Bits.{bit};
 ghost use Rattle.climbs.specs.Perches.{perch_at, has_parent, parent_from, depth_by};
 
-use louds::{Up, one_back, parent};
+use louds::{one_back, parent};
 use walks::stands::or_end;
 
 // A node with the place of its one.
@@ -17,18 +17,11 @@ pub struct Perch {
     pub one: usize,
 }
 
-#[derive(Clone, Copy)]
-pub enum Rise {
-    Parent(Perch),
-    // The node's one is missing, or the number of its parent is not from 1 to the node's less 1.
-    NoParent,
-}
-
 // The perch at any node. Its one is looked for from bit 0 on.
 pub fn perch_at(words: &[u64], len: usize, node: usize) -> Perch
     ensures { result ≡ perch_at (bit words.now) len node }
 {
-    let Up::Node(up) = parent(words, len, node) else {
+    let Some(up) = parent(words, len, node) else {
         return Perch { node, one: len };
     };
     // before it stand the ones of the nodes before, and as many zeros as its parent's number says
@@ -56,15 +49,15 @@ fn has_parent(len: usize, node: usize, one: usize) -> bool
 }
 
 // The parent of a perch: its number is the count of zeros before the node's one.
-pub fn parent_of(words: &[u64], len: usize, at: Perch) -> Rise
+pub fn parent_of(words: &[u64], len: usize, at: Perch) -> Option<Perch>
     ensures { result ≡ parent_from (bit words.now) len at }
 {
     if !has_parent(len, at.node, at.one) {
-        return Rise::NoParent;
+        return None;
     }
     let up = at.one - (at.node - 1);
     let spot = one_back(words, at.one, at.node - up);
-    Rise::Parent(Perch {
+    Some(Perch {
         node: up,
         one: or_end(spot, at.one),
     })
@@ -77,7 +70,7 @@ pub fn depth(words: &[u64], len: usize, node: usize) -> usize
     let mut at = perch_at(words, len, node);
     let mut count: usize = 0;
     loop {
-        let Rise::Parent(up) = parent_of(words, len, at) else {
+        let Some(up) = parent_of(words, len, at) else {
             return count;
         };
         at = up;

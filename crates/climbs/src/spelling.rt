@@ -6,7 +6,7 @@ ghost use Rattle.keymap.specs.Label.{label_in};
 ghost use Rattle.keymap.specs.Bits.{bit};
 ghost use Rattle.climbs.specs.Spelling.{has_entry, spelled_by};
 
-use crate::perches::{Rise, parent_of, perch_at};
+use crate::perches::{parent_of, perch_at};
 use image::MARK;
 
 fn label_in(entry: u16) -> u8
@@ -43,7 +43,7 @@ pub fn spell(labels: &[u16], words: &[u64], len: usize, node: usize, count: usiz
         }
         left -= 1;
         out[left] = label_in(labels[at.node - 2]);
-        let Rise::Parent(up) = parent_of(words, len, at) else {
+        let Some(up) = parent_of(words, len, at) else {
             return;
         };
         at = up;

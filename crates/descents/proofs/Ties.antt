@@ -4,7 +4,7 @@ use mathlib.Core.Path.{◌≡◌}
 use Rattle.keymap.specs.Contract.{Tells}
 use Rattle.keymap.specs.Bits.{bit}
 use Rattle.walks.specs.Rule.{walked}
-use Rattle.walks.specs.Stands.{child_of, reached_at}
+use Rattle.walks.specs.Stands.{reached_at}
 use Rattle.descents.proofs.queries.walk.Kinds as walk-kinds
 use Rattle.descents.proofs.queries.walk.Reads as walk-reads
 use Rattle.descents.proofs.queries.end_of.Kinds as end-of-kinds
@@ -13,5 +13,5 @@ use Rattle.descents.proofs.queries.end_of.Reads as end-of-reads
 pub walk-says : Tells 3 walk-kinds.ps walk-kinds.r walk-reads.Post (λ κs a r s. r ≡ reached_at (bit a.1.0.now) a.1.1.0 (walked a.0.now (bit a.1.0.now) a.1.1.0 a.1.1.1.0.now))
 walk-says κs a r s p = p
 
-pub end-of-says : Tells 3 end-of-kinds.ps end-of-kinds.r end-of-reads.Post (λ κs a r s. r ≡ child_of (walked a.0.now (bit a.1.0.now) a.1.1.0 a.1.1.1.0.now))
+pub end-of-says : Tells 3 end-of-kinds.ps end-of-kinds.r end-of-reads.Post (λ κs a r s. r ≡ (walked a.0.now (bit a.1.0.now) a.1.1.0 a.1.1.1.0.now))
 end-of-says κs a r s p = p

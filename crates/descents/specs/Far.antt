@@ -8,7 +8,7 @@
 --     stand_near     a node with a zero that is counted from the start of a word on
 --     went_on        where a walk ends that whole words took so far, and `ended_at`: the stand that its end stands for
 -- Assumes nothing.
-use Rattle.std.specs.Prelude.{◌≡◌, ℕ, ◌+◌, ◌-◌, ◌*◌, ◌%◌, ◌^◌, ◌≤◌, ◌<◌, List, get_or, drop}
+use Rattle.std.specs.Prelude.{◌≡◌, ℕ, ◌+◌, ◌-◌, ◌*◌, ◌%◌, ◌^◌, ◌≤◌, ◌<◌, List, get_or, drop, None, Option, Some, unwrap_or}
 use Rattle.std.specs.Int.Count.{ones}
 use Rattle.keymap.specs.Key.{Key}
 use Rattle.keymap.specs.Limits.{word_bits}
@@ -16,14 +16,11 @@ use Rattle.keymap.specs.Bits.{bit, sum_below}
 use Rattle.louds.specs.Digits.{complement}
 use Rattle.louds.specs.Rank.{zeros_before}
 use Rattle.louds.specs.Select.{zero_from}
-use Rattle.louds.specs.Nodes.{or_end}
 use Rattle.descents.specs.declared.far.Passed.{Passed}
 use Rattle.descents.specs.declared.far.Kept.{Kept}
 use Rattle.descents.specs.declared.far.Went.{Went}
 use Rattle.descents.specs.declared.far.Went.TheVariants.{Gone, Lost}
 use Rattle.walks.specs.declared.stands.Stand.{Stand}
-use Rattle.walks.specs.declared.moves.Reached.{Reached}
-use Rattle.walks.specs.declared.moves.Reached.TheVariants.{To, NoPath}
 use Rattle.descents.specs.declared.queries.Ended.{Ended}
 use Rattle.descents.specs.declared.queries.Ended.TheVariants.{Near, At, Nowhere}
 use Rattle.walks.specs.Stands.{down_along}
@@ -65,14 +62,14 @@ ZeroWord ws whole first w = w < whole → HasZero ws first w
 -- is 0
 abbrev pub stand_near : (ℕ → ℕ) → ℕ → ℕ → ℕ → ℕ → Stand
 stand_near b len node kept left =
-    record { node = node; zero = or_end len (zero_from b len ((kept - 1) * word_bits) left) }
+    record { node = node; zero = unwrap_or (zero_from b len ((kept - 1) * word_bits) left) len }
 
-abbrev pub went_on : List ℕ → (ℕ → ℕ) → ℕ → Key → Went → Reached
-went_on ls b len q Lost = NoPath
+abbrev pub went_on : List ℕ → (ℕ → ℕ) → ℕ → Key → Went → (Option Stand)
+went_on ls b len q Lost = None
 went_on ls b len q (Gone node steps kept left) =
-    down_along ls b len (drop steps q) (To (stand_near b len node kept left))
+    down_along ls b len (drop steps q) (Some (stand_near b len node kept left))
 
-abbrev pub ended_at : (ℕ → ℕ) → ℕ → Ended → Reached
-ended_at b len (Near node kept left) = To (stand_near b len node kept left)
-ended_at b len (At s) = To s
-ended_at b len Nowhere = NoPath
+abbrev pub ended_at : (ℕ → ℕ) → ℕ → Ended → (Option Stand)
+ended_at b len (Near node kept left) = Some (stand_near b len node kept left)
+ended_at b len (At s) = Some s
+ended_at b len Nowhere = None

@@ -8,7 +8,6 @@ ghost use Rattle.walks.specs.Stands.{reached_at};
 ghost use Rattle.descents.specs.Far.{PassedFrom, Ready, ZeroWord, stand_near, went_on};
 
 use louds::{WORD_BITS, lowest_one, ones_by_byte, ones_from, ones_in, zero_from};
-use walks::entries::Child;
 use walks::siblings::{child_within, larger, smaller};
 use walks::stands::{Stand, or_end};
 
@@ -180,7 +179,7 @@ pub fn go_far(labels: &[u16], words: &[u64], len: usize, query: &[u8]) -> Went
         } else {
             to = base + lowest_one(more) - 64;
         }
-        let Child::Node(m) = child_within(labels, node, from, to, query[i]) else {
+        let Some(m) = child_within(labels, node, from, to, query[i]) else {
             return Went::Lost;
         };
         left += m - node;

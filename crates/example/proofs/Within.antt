@@ -9,7 +9,7 @@ use Prim.Native.Nat.{ℕ, ◌+◌, ◌-◌, ◌*◌, ◌/◌, ◌≤◌}
 use native.Mathlib.Omega.{arith}
 use mathlib.Core.Bool.{Bool, true, false, cond}
 use mathlib.Core.List.{List, [], ◌∷◌}
-use mathlib.Core.Option.{Option, none, some}
+use Rattle.std.specs.Prelude.{Option, None, Some}
 use lib.ListN.{length, get_or}
 use lib.Dec.{leb, ltb}
 use borrow.Author.Tests.{leb-true}
@@ -44,8 +44,8 @@ key-within i at out r n e h = go (image_test i) (belongs (image_map i) at) (key_
     go : (t u : Bool) (k : Option Key) → 0 ∷ n ∷ [] ≡ cond t (cond u (says_key k out) (7 ∷ [])) (6 ∷ []) → n ≤ length out
     go false u k q = let z : ◌≡◌ {A = ℕ} 0 6 = cc in absurd (omega arith)
     go true false k q = let z : ◌≡◌ {A = ℕ} 0 7 = cc in absurd (omega arith)
-    go true true none q = let z : ◌≡◌ {A = ℕ} 0 7 = cc in absurd (omega arith)
-    go true true (some k) q = fits k (leb (length k) (length out)) refl q
+    go true true None q = let z : ◌≡◌ {A = ℕ} 0 7 = cc in absurd (omega arith)
+    go true true (Some k) q = fits k (leb (length k) (length out)) refl q
 
 -- n nodes, in so many labels, values and words
 abbrev pub Within : (n labels values words : ℕ) → Type 0

@@ -10,7 +10,7 @@
 --     OfMap         "some map with nonempty keys has it", and the map is no larger than an image can be
 --     LentSlices    what any lent slices hold: words of 64 bits and values of 32
 -- Assumes nothing.
-use Rattle.std.specs.Prelude.{◌≡◌, ℕ, ◌+◌, ◌-◌, ◌*◌, ◌^◌, ◌≤◌, ◌<◌, length, get_or}
+use Rattle.std.specs.Prelude.{◌≡◌, ℕ, ◌+◌, ◌-◌, ◌*◌, ◌^◌, ◌≤◌, ◌<◌, length, get_or, Option, Some}
 use Rattle.keymap.specs.Limits.{word_bits, value_limit, most_records}
 use Rattle.keymap.specs.Map.{Map, Catalogue}
 use Rattle.keymap.specs.Prefixes.{prefixes}
@@ -18,11 +18,8 @@ use Rattle.keymap.specs.Label.{mark, label_in}
 use Rattle.keymap.specs.Bits.{bit, words_for}
 use Rattle.keymap.specs.Image.{Image, bits_for, image}
 use Rattle.louds.specs.declared.answers.Children.{Children}
-use Rattle.louds.specs.declared.answers.Children.TheVariants.{Run}
-use Rattle.louds.specs.declared.answers.Up.{Up}
-use Rattle.louds.specs.declared.answers.Up.TheVariants.{Node}
 use Rattle.louds.specs.Rank.{ones_before, zeros_before}
-use Rattle.louds.specs.Nodes.{children_of, parent_of}
+use Rattle.louds.specs.Nodes.{Run, children_of, parent_of}
 
 abbrev pub entries : Image → ℕ
 entries i = length i.labels
@@ -33,16 +30,16 @@ node_entry i m = get_or i.labels (m - 2) 0
 abbrev pub node_value : Image → ℕ → ℕ
 node_value i m = get_or i.values (m - 2) 0
 
-abbrev pub parent_in : Image → ℕ → Up
+abbrev pub parent_in : Image → ℕ → (Option ℕ)
 parent_in i m = parent_of (bit i.words) (bits_for (entries i)) m
 
-abbrev pub kids_in : Image → ℕ → Children
+abbrev pub kids_in : Image → ℕ → Option Children
 kids_in i m = children_of (bit i.words) (bits_for (entries i)) m
 
 -- "its parent's number from 1 to m-1"
 pub record ParentBelow (i : Image) (m : ℕ) : Type 0 where
   pub number : ℕ
-  pub answer : parent_in i m ≡ Node number
+  pub answer : parent_in i m ≡ Some number
   pub low : 1 ≤ number
   pub high : number < m
 

@@ -8,19 +8,18 @@
 --     written_key    the buffer where there may be no key
 --     answer_number  the number that an answer begins with: that of a refusal, 0 of every other
 -- Assumes nothing.
-use Rattle.std.specs.Prelude.{ℕ, Bool, true, false, cond, List, [], ◌∷◌, length, leb}
-use Rattle.std.proofs.Math.Option.{Option, none, some}
+use Rattle.std.specs.Prelude.{ℕ, Bool, true, false, cond, List, [], ◌∷◌, length, leb, Option, None, Some}
 use Rattle.keymap.specs.Key.{Key}
 use Rattle.keymap.specs.Buffers.{over}
 use Rattle.keymap.specs.Refusals.{refuses, KeyRoom}
 
 abbrev pub given : Option ℕ → Bool
-given none = false
-given (some v) = true
+given None = false
+given (Some v) = true
 
 abbrev pub says_value : Option ℕ → List ℕ
-says_value none = 0 ∷ []
-says_value (some v) = 0 ∷ v ∷ []
+says_value None = 0 ∷ []
+says_value (Some v) = 0 ∷ v ∷ []
 
 abbrev pub says_flag : Bool → List ℕ
 says_flag true = 0 ∷ 1 ∷ []
@@ -35,8 +34,8 @@ abbrev pub written_to : Key → List ℕ → List ℕ
 written_to k out = cond (leb (length k) (length out)) (over k out) out
 
 abbrev pub written_key : Option Key → List ℕ → List ℕ
-written_key none out = out
-written_key (some k) out = written_to k out
+written_key None out = out
+written_key (Some k) out = written_to k out
 
 abbrev pub answer_number : List ℕ → ℕ
 answer_number [] = 0

@@ -6,8 +6,7 @@
 --     forest_image  the image that is written from them
 --     emitted       the bits as `trie_builder.rs` pushes them, one for each element that its queue gives
 -- Assumes nothing.
-use Rattle.std.specs.Prelude.{ℕ, zero, suc, ◌+◌, ◌*◌, List, [], ◌∷◌, ◌++◌, map}
-use Rattle.std.proofs.Math.Option.{Option}
+use Rattle.std.specs.Prelude.{ℕ, zero, suc, ◌+◌, ◌*◌, List, [], ◌∷◌, ◌++◌, map, Option}
 use Rattle.keymap.specs.Forest.{Forest, empty, node, size, width, join}
 use Rattle.keymap.specs.Label.{label_entry, value_word}
 use Rattle.keymap.specs.Bits.{pack}

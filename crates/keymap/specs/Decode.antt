@@ -6,8 +6,7 @@
 --     decode        its forest
 --     image_map     its map
 -- Assumes nothing.
-use Rattle.std.specs.Prelude.{ℕ, zero, suc, ◌-◌, List, [], ◌∷◌, length, drop}
-use Rattle.std.proofs.Math.Option.{none}
+use Rattle.std.specs.Prelude.{ℕ, zero, suc, ◌-◌, List, [], ◌∷◌, length, drop, None}
 use Rattle.keymap.specs.Map.{Map}
 use Rattle.keymap.specs.Forest.{Forest, empty, node, width, list_tree}
 use Rattle.keymap.specs.Label.{label_in, value_in}
@@ -54,4 +53,4 @@ unfoldable pub decode : Image → Forest
 decode i = rebuild (rows_in i)
 
 unfoldable pub image_map : Image → Map
-image_map i = list_tree (none, decode i)
+image_map i = list_tree (None, decode i)

@@ -13,8 +13,7 @@
 --     size, width   how many nodes, how many siblings
 -- Assumes nothing.
 use Prim.Native.Nat.{ℕ, zero, suc, ◌+◌, ◌<◌, compare}
-use Rattle.std.specs.Prelude.{cond, [], ◌∷◌, ◌++◌, map, eqb}
-use Rattle.std.proofs.Math.Option.{Option, none, some}
+use Rattle.std.specs.Prelude.{cond, [], ◌∷◌, ◌++◌, map, eqb, Option, None, Some}
 use Rattle.keymap.specs.Key.{Key, pick}
 use Rattle.keymap.specs.Limits.{byte_limit}
 use Rattle.keymap.specs.Map.{Entry, Map}
@@ -28,7 +27,7 @@ Tree = Option ℕ × Forest
 
 -- nothing at all
 abbrev pub bare : Tree
-bare = (none, empty)
+bare = (None, empty)
 
 -- t under the label a, before the siblings f
 abbrev pub hang : ℕ → Tree → Forest → Forest
@@ -54,7 +53,7 @@ alter a g (node b w kids next) =
     (node b w kids (alter a g next))
 
 unfoldable pub grow : Key → ℕ → Tree → Tree
-grow [] v t = (some v, t.1)
+grow [] v t = (Some v, t.1)
 grow (a ∷ k) v t = (t.0, alter a (grow k v) t.1)
 
 unfoldable pub tree_of : Map → Tree
@@ -63,8 +62,8 @@ tree_of (e ∷ m) = grow e.0 e.1 (tree_of m)
 
 -- the entry of a path's own value
 abbrev pub own_entry : Option ℕ → Map
-own_entry none = []
-own_entry (some v) = ([], v) ∷ []
+own_entry None = []
+own_entry (Some v) = ([], v) ∷ []
 
 abbrev pub behind_label : ℕ → Entry → Entry
 behind_label a e = (a ∷ e.0, e.1)
@@ -83,9 +82,9 @@ Above a (node b w kids next) = a < b
 
 -- a value or a child
 abbrev pub Live : Option ℕ → Forest → Type 0
-Live (some v) kids = Unit {0}
-Live none empty = ⊥
-Live none (node b w kids next) = Unit {0}
+Live (Some v) kids = Unit {0}
+Live None empty = ⊥
+Live None (node b w kids next) = Unit {0}
 
 abbrev pub Orderly : Forest → Type 0
 Orderly empty = Unit {0}

@@ -6,8 +6,7 @@
 --     label_in       the label of such a number
 --     value_in       the value, if it is marked as having one
 -- Assumes nothing.
-use Rattle.std.specs.Prelude.{ℕ, ◌+◌, ◌%◌, cond, leb}
-use Rattle.std.proofs.Math.Option.{Option, none, some}
+use Rattle.std.specs.Prelude.{ℕ, ◌+◌, ◌%◌, cond, leb, Option, None, Some}
 use Rattle.keymap.specs.Limits.{byte_limit}
 
 -- what a value adds to the label: the first number that is no label
@@ -15,15 +14,15 @@ abbrev pub mark : ℕ
 mark = byte_limit
 
 abbrev pub label_entry : ℕ → Option ℕ → ℕ
-label_entry a none = a
-label_entry a (some v) = a + mark
+label_entry a None = a
+label_entry a (Some v) = a + mark
 
 abbrev pub value_word : Option ℕ → ℕ
-value_word none = 0
-value_word (some v) = v
+value_word None = 0
+value_word (Some v) = v
 
 abbrev pub label_in : ℕ → ℕ
 label_in e = e % byte_limit
 
 abbrev pub value_in : ℕ → ℕ → Option ℕ
-value_in e v = cond (leb mark e) (some v) none
+value_in e v = cond (leb mark e) (Some v) None

@@ -8,8 +8,7 @@
 --     insert_all    the same for entries in turn: of one key the last value stays
 --     lookup        the value of a key
 -- Assumes nothing.
-use Rattle.std.specs.Prelude.{ℕ, ◌<◌, ◌≡◌, List, [], ◌∷◌}
-use Rattle.std.proofs.Math.Option.{Option, none, some}
+use Rattle.std.specs.Prelude.{ℕ, ◌<◌, ◌≡◌, List, [], ◌∷◌, Option, None, Some}
 use Rattle.keymap.specs.Key.{Key, Bytes, Below, compare_keys, pick}
 use Rattle.keymap.specs.Limits.{value_limit}
 
@@ -49,5 +48,5 @@ insert_all [] m = m
 insert_all (e ∷ es) m = insert_all es (insert e.0 e.1 m)
 
 unfoldable pub lookup : Key → Map → Option ℕ
-lookup k [] = none
-lookup k (e ∷ m) = pick (compare_keys k e.0) none (some e.1) (lookup k m)
+lookup k [] = None
+lookup k (e ∷ m) = pick (compare_keys k e.0) None (Some e.1) (lookup k m)

@@ -12,10 +12,9 @@
 -- The claims `LongestCommon`, `ShortestWithin` and `NextAfter` are 01's words for the last four: their laws say which
 -- answer is claimed, and when there is none.
 -- Assumes nothing.
-use Rattle.std.specs.Prelude.{ℕ, ◌≤◌, ◌<◌, Bool, true, false, cond, ◌&&◌, length, ltb}
-use mathlib.Core.List.{List, [], ◌∷◌, head?}
-use Rattle.std.proofs.Math.Option.{Option, none, some}
-use Rattle.keymap.specs.Members.{In}
+use Rattle.std.specs.Prelude.{ℕ, ◌≤◌, ◌<◌, Bool, true, false, cond, ◌&&◌, length, ltb, Option, None, Some}
+use mathlib.Core.List.{List, [], ◌∷◌}
+use Rattle.keymap.specs.Members.{In, head_of}
 use Rattle.keymap.specs.Key.{Key, Below, is_below, PrefixOf, begins_with, extends, common_prefix}
 use Rattle.keymap.specs.Map.{Entry, Map}
 
@@ -52,8 +51,8 @@ common_of_all (e ∷ []) = e.0
 common_of_all (e ∷ d ∷ m) = common_prefix e.0 (common_of_all (d ∷ m))
 
 abbrev pub unless_empty : Key → Option Key
-unless_empty [] = none
-unless_empty (a ∷ k) = some (a ∷ k)
+unless_empty [] = None
+unless_empty (a ∷ k) = Some (a ∷ k)
 
 unfoldable pub longest_prefix_in : Key → Map → Option Key
 longest_prefix_in q m = unless_empty (common_of_all (beginning q m))
@@ -66,7 +65,7 @@ pub record ShortestWithin (q : Key) (seen : ℕ) (m : Map) (e : Entry) : Type 0 
 
 -- keys that are prefixes of one query rise with their lengths, so the first is the shortest
 unfoldable pub common_prefix_in : Key → ℕ → Map → Option Entry
-common_prefix_in q seen m = head? (keep (λ (e : Entry). begins_with e.0 q && ltb seen (length e.0)) m)
+common_prefix_in q seen m = head_of (keep (λ (e : Entry). begins_with e.0 q && ltb seen (length e.0)) m)
 
 pub record NextAfter (k : Key) (m : Map) (e : Entry) : Type 0 where
   pub entry : In e m
@@ -74,4 +73,4 @@ pub record NextAfter (k : Key) (m : Map) (e : Entry) : Type 0 where
   pub least : (d : Entry) → In d m → Below k d.0 → ¬ Below d.0 e.0
 
 unfoldable pub least_above : Key → Map → Option Entry
-least_above k m = head? (keep (λ (e : Entry). is_below k e.0) m)
+least_above k m = head_of (keep (λ (e : Entry). is_below k e.0) m)

@@ -1,17 +1,8 @@
 -- The numbered refusals (01), one table for every crate: which call gives which is in its own crate.
 -- Assumes nothing.
 use Rattle.std.specs.Prelude.{ℕ, List, [], ◌∷◌}
-
-pub data Refusal : Type 0 where
-  PoolTooSmall : Refusal
-  NotAPool : Refusal
-  EmptyKey : Refusal
-  NoRoom : Refusal
-  OutTooSmall : Refusal
-  NotAnImage : Refusal
-  BadPlace : Refusal
-  KeyRoom : Refusal
-  BadLine : Refusal
+pub use Rattle.keymap.specs.declared.refusals.Refusal.{Refusal}
+pub use Rattle.keymap.specs.declared.refusals.Refusal.TheVariants.{PoolTooSmall, NotAPool, EmptyKey, NoRoom, OutTooSmall, NotAnImage, BadPlace, KeyRoom, BadLine}
 
 abbrev pub refusal_number : Refusal → ℕ
 refusal_number PoolTooSmall = 1

@@ -6,8 +6,7 @@
 --     is_decimal     a text obeys the rule
 --     number_in      the number that a text spells, if it obeys the rule
 -- Assumes nothing.
-use Rattle.std.specs.Prelude.{ℕ, zero, suc, ◌+◌, ◌*◌, ◌-◌, ◌/◌, ◌%◌, Bool, true, false, cond, not, ◌&&◌, List, [], ◌∷◌, ◌++◌, length, get_or, eqb, leb, ltb}
-use Rattle.std.proofs.Math.Option.{Option, none, some}
+use Rattle.std.specs.Prelude.{ℕ, zero, suc, ◌+◌, ◌*◌, ◌-◌, ◌/◌, ◌%◌, Bool, true, false, cond, not, ◌&&◌, List, [], ◌∷◌, ◌++◌, length, get_or, eqb, leb, ltb, Option, None, Some}
 use Rattle.keymap.specs.Limits.{value_limit}
 
 -- the byte of the digit 0; the others follow it
@@ -50,4 +49,4 @@ is_decimal t =
     && ltb (value_after 0 t) value_limit
 
 unfoldable pub number_in : List ℕ → Option ℕ
-number_in t = cond (is_decimal t) (some (value_after 0 t)) none
+number_in t = cond (is_decimal t) (Some (value_after 0 t)) None

@@ -5,11 +5,11 @@
 --     tab_line_says   what `tab_line` answers: the key's length and the number, or the refusal
 --     tab_line_key    the part that `tab_line_key` hands back: the key, empty where the first call refuses
 -- Assumes nothing.
-use Rattle.std.specs.Prelude.{ℕ, suc, cond, not, ◌&&◌, List, [], ◌∷◌, length, take, drop}
-use Rattle.std.proofs.Math.Option.{Option, none, some}
+use Rattle.std.specs.Prelude.{ℕ, suc, cond, not, ◌&&◌, List, [], ◌∷◌, length, take, drop, Option, None, Some}
 use Rattle.keymap.specs.Key.{Key}
 use Rattle.keymap.specs.Map.{Entry}
-use Rattle.keymap.specs.Refusals.{Refusal, refuses}
+use Rattle.keymap.specs.Refusals.{refuses}
+use Rattle.keymap.specs.declared.refusals.Refusal.{Refusal}
 use Rattle.lines.specs.Bytes.{tab, line_feed, holds, stretch}
 use Rattle.lines.specs.Decimal.{number_in}
 
@@ -22,21 +22,21 @@ unfoldable pub number_part : List ℕ → List ℕ
 number_part line = drop (suc (stretch tab line)) line
 
 abbrev pub with_number : Key → Option ℕ → Option Entry
-with_number k none = none
-with_number k (some v) = some (k, v)
+with_number k None = None
+with_number k (Some v) = Some (k, v)
 
 unfoldable pub tab_entry : List ℕ → Option Entry
 tab_entry line =
     cond (holds tab line && not (holds line_feed (key_part line)))
-    (with_number (key_part line) (number_in (number_part line))) none
+    (with_number (key_part line) (number_in (number_part line))) None
 
 abbrev pub entry_says : Option Entry → List ℕ
-entry_says none = refuses Refusal.BadLine
-entry_says (some e) = 0 ∷ length e.0 ∷ e.1 ∷ []
+entry_says None = refuses Refusal.BadLine
+entry_says (Some e) = 0 ∷ length e.0 ∷ e.1 ∷ []
 
 abbrev pub entry_key : Option Entry → Key
-entry_key none = []
-entry_key (some e) = e.0
+entry_key None = []
+entry_key (Some e) = e.0
 
 unfoldable pub tab_line_says : List ℕ → List ℕ
 tab_line_says line = entry_says (tab_entry line)

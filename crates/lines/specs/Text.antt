@@ -7,8 +7,7 @@
 --     next_line_says  what `next_line` answers: where the line at a position ends and where the next one begins, or
 --                     that there is none
 -- Assumes nothing.
-use Rattle.std.specs.Prelude.{ℕ, suc, ◌+◌, min, cond, List, [], ◌∷◌, map, length, drop, eqb}
-use Rattle.std.proofs.Math.Option.{Option}
+use Rattle.std.specs.Prelude.{ℕ, suc, ◌+◌, min, cond, List, [], ◌∷◌, map, length, drop, eqb, Option}
 use Rattle.keymap.specs.Map.{Entry}
 use Rattle.lines.specs.Bytes.{line_feed}
 use Rattle.lines.specs.TabLine.{tab_entry}

@@ -11,7 +11,8 @@
 use Rattle.std.specs.Prelude.{◌≡◌, ℕ, ◌<◌, false, cond, List, [], ◌∷◌, ◌++◌, length, ltb}
 use Rattle.keymap.specs.Limits.{value_limit}
 use Rattle.keymap.specs.Map.{Entry}
-use Rattle.keymap.specs.Refusals.{Refusal, refuses}
+use Rattle.keymap.specs.Refusals.{refuses}
+use Rattle.keymap.specs.declared.refusals.Refusal.{Refusal}
 use Rattle.keymap.specs.Buffers.{over}
 use Rattle.lines.specs.Bytes.{tab, line_feed, holds}
 use Rattle.lines.specs.Decimal.{decimal}

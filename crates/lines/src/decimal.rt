@@ -1,13 +1,13 @@
 // Numbers as decimal text, read and written.
 ghost use Rattle.std.specs.Prelude.{◌≡◌, ◌≤◌, length};
 ghost use Rattle.lines.specs.Decimal.{most_digits, decimal, leading_zero, number_in};
-ghost use Rattle.lines.specs.Numerals.{spelled, digits_in};
+ghost use Rattle.lines.specs.Numerals.{digits_in};
 
 pub const MOST_DIGITS: usize = 10;
 
 // The number that a text spells, if it obeys the rule for numbers.
 pub fn number_in(text: &[u8]) -> Option<u32>
-    ensures { spelled result ≡ number_in text.now }
+    ensures { result ≡ number_in text.now }
 {
     if text.is_empty() {
         return None;

@@ -10,9 +10,9 @@
 --     next_in        the entry that the next step gives
 --     step_says      a step
 -- Assumes nothing.
-use Rattle.std.specs.Prelude.{ℕ, zero, suc, Bool, true, cond, ◌&&◌}
-use mathlib.Core.List.{List, ◌∷◌, head?}
-use Rattle.std.proofs.Math.Option.{Option, none, some}
+use Rattle.std.specs.Prelude.{ℕ, zero, suc, Bool, true, cond, ◌&&◌, Option, None, Some}
+use mathlib.Core.List.{List, ◌∷◌}
+use Rattle.keymap.specs.Members.{head_of}
 use Rattle.keymap.specs.Key.{Key}
 use Rattle.keymap.specs.Answers.{given}
 use Rattle.keymap.specs.Refusals.{refuses, BadPlace}
@@ -51,7 +51,7 @@ start_says kind i q =
     on_image i (0 ∷ said_cursor (cond (nonempty (set_of m kind q)) (Open kind (node_of m q) 0) (Finished kind)))
 
 abbrev pub next_in : Map → Map → ℕ → Option Entry
-next_in m set zero = head? set
+next_in m set zero = head_of set
 next_in m set (suc k) = least_above (path_of m (suc k)) set
 
 -- the end, which comes with a finished cursor
@@ -59,8 +59,8 @@ abbrev pub says_end : Kind → List ℕ
 says_end kind = 0 ∷ 0 ∷ said_cursor (Finished kind)
 
 abbrev pub says_step : Map → Kind → ℕ → Option Entry → List ℕ
-says_step m kind top none = says_end kind
-says_step m kind top (some e) = 0 ∷ node_of m e.0 ∷ e.1 ∷ said_cursor (Open kind top (node_of m e.0))
+says_step m kind top None = says_end kind
+says_step m kind top (Some e) = 0 ∷ node_of m e.0 ∷ e.1 ∷ said_cursor (Open kind top (node_of m e.0))
 
 abbrev pub step_in : Map → Cursor → List ℕ
 step_in m (Open kind top last) = says_step m kind top (next_in m (set_of m kind (path_of m top)) last)

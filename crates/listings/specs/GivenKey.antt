@@ -6,8 +6,7 @@
 --     key_of         the key that a cursor gave last
 --     key_says       the answer, and `key_out`: the buffer afterwards
 -- Assumes nothing.
-use Rattle.std.specs.Prelude.{ℕ, zero, suc, cond, List, length, drop}
-use Rattle.std.proofs.Math.Option.{Option, none, some}
+use Rattle.std.specs.Prelude.{ℕ, zero, suc, cond, List, length, drop, Option, None, Some}
 use Rattle.keymap.specs.Key.{Key}
 use Rattle.keymap.specs.Answers.{says_written, written_key}
 use Rattle.keymap.specs.Refusals.{refuses, BadPlace}
@@ -28,17 +27,17 @@ given_key m kinds.Predictive top k = path_of m k
 given_key m kinds.Postfix top k = drop (length (path_of m top)) (path_of m k)
 
 abbrev pub key_from : Map → Kind → ℕ → ℕ → Option Key
-key_from m kind top zero = none
-key_from m kind top (suc k) = some (given_key m kind top (suc k))
+key_from m kind top zero = None
+key_from m kind top (suc k) = Some (given_key m kind top (suc k))
 
 -- none of a fresh cursor, nor of a finished one
 abbrev pub key_of : Map → Cursor → Option Key
 key_of m (Open kind top last) = key_from m kind top last
-key_of m (Finished kind) = none
+key_of m (Finished kind) = None
 
 abbrev pub says_key : Option Key → List ℕ → List ℕ
-says_key none out = refuses BadPlace
-says_key (some k) out = says_written k out
+says_key None out = refuses BadPlace
+says_key (Some k) out = says_written k out
 
 unfoldable pub key_says : Image → Cursor → List ℕ → List ℕ
 key_says i c out = on_image i (on_cursor (image_map i) c (says_key (key_of (image_map i) c) out))

@@ -8,8 +8,7 @@
 --     start_by        the cursor that a listing starts with
 --     given_len_by    how long the key of a node is in a listing
 -- Assumes nothing.
-use Rattle.std.specs.Prelude.{ℕ, zero, suc, ◌-◌, ◌^◌, Bool, true, false, cond, ◌&&◌, List, length, eqb, ltb}
-use Rattle.std.proofs.Math.Option.{Option, none, some}
+use Rattle.std.specs.Prelude.{ℕ, zero, suc, ◌-◌, ◌^◌, Bool, true, false, cond, ◌&&◌, List, length, eqb, ltb, Option, None, Some}
 use Rattle.keymap.specs.Key.{Key}
 use Rattle.keymap.specs.Answers.{given}
 use Rattle.walks.specs.declared.stands.Stand.{Stand}
@@ -64,8 +63,8 @@ number_limit = 2 ^ 32
 
 -- from the node where a walk ended, if it ended anywhere
 abbrev pub start_from : List ℕ → (ℕ → ℕ) → ℕ → Kind → Option ℕ → Cursor
-start_from ls b len kind none = Finished kind
-start_from ls b len kind (some k) =
+start_from ls b len kind None = Finished kind
+start_from ls b len kind (Some k) =
     cond (ltb k number_limit && has_keys_by ls b len kind (stand_at b len k)) (Open kind k 0) (Finished kind)
 
 unfoldable pub start_by : List ℕ → (ℕ → ℕ) → ℕ → Kind → Key → Cursor

@@ -17,8 +17,7 @@ use climbs::below::is_below;
 use climbs::order::{Given, next_valued};
 use descents::walk;
 use image::is_image;
-use walks::entries::{Held, is_node, value_at};
-use walks::moves::Reached;
+use walks::entries::{is_node, value_at};
 use walks::stands::{Stand, kids};
 
 // A cursor's numbers have 32 bits.
@@ -36,7 +35,7 @@ fn in_set(
 ) -> bool
     ensures { result ≡ in_set_by labels.now values.now (bit words.now) len kind top node }
 {
-    let Held::Value(_) = value_at(labels, values, node) else {
+    let Some(_) = value_at(labels, values, node) else {
         return false;
     };
     match kind {
@@ -87,8 +86,8 @@ fn first_given(labels: &[u16], values: &[u32], words: &[u64], len: usize, top: u
     ensures { result ≡ given_of (first_given_by labels.now values.now (bit words.now) len top) }
 {
     match value_at(labels, values, top) {
-        Held::Value(value) => Given::Entry { node: top, value },
-        Held::NoValue => next_valued(labels, values, words, len, top, top),
+        Some(value) => Given::Entry { node: top, value },
+        None => next_valued(labels, values, words, len, top, top),
     }
 }
 
@@ -131,7 +130,7 @@ fn has_keys(labels: &[u16], words: &[u64], len: usize, kind: Kind, s: Stand) -> 
 fn start(labels: &[u16], words: &[u64], len: usize, kind: Kind, query: &[u8]) -> Cursor
     ensures { result ≡ start_by labels.now (bit words.now) len kind query.now }
 {
-    let Reached::To(s) = walk(labels, words, len, query) else {
+    let Some(s) = walk(labels, words, len, query) else {
         return Cursor::finished(kind);
     };
     if MOST_NUMBER < s.node {

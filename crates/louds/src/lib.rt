@@ -11,7 +11,7 @@ mod nodes;
 mod rank;
 mod select;
 
-pub use answers::{Children, Spot, Up};
+pub use answers::Children;
 pub use bits::{WORD_BITS, bit_at, put_one};
 pub use nodes::{children, parent};
 pub use rank::{ones_before, ones_by_byte, ones_in, zeros_before};

@@ -1,17 +1,14 @@
 // Selects: where the k-th zero or one stands, counted from 1, among the first `len` bits, or going down, among those
 // before a place. The 0-th is missing.
 // Words are passed by how many zeros or ones they have, and the one that has the k-th is looked into.
-ghost use Rattle.std.specs.Prelude.{◌≡◌, ◌+◌, ◌*◌, ◌/◌, ◌<◌, ◌≤◌, min, count_ones};
+ghost use Rattle.std.specs.Prelude.{◌≡◌, ◌+◌, ◌*◌, ◌/◌, ◌<◌, ◌≤◌, min, count_ones, Some, unwrap_or};
 ghost use Rattle.std.specs.Int.Count.{count_trailing_zeros};
 ghost use Rattle.keymap.specs.Limits.{word_bits};
 ghost use Rattle.keymap.specs.Bits.{bit, number};
 ghost use Rattle.louds.specs.Digits.{digit};
-ghost use Rattle.louds.specs.Nodes.{or_end};
-ghost use Rattle.louds.specs.declared.answers.Spot.TheVariants.{At};
 ghost use Rattle.louds.specs.Taking.{ones_from};
 ghost use Rattle.louds.specs.Select.{kth, marks, bit_from, zero_at, zero_from, one_at, one_back};
 
-use crate::answers::Spot;
 use crate::bits::{WORD_BITS, word_at};
 use crate::rank::{ones_by_byte, ones_in};
 use std::num::wrapping_add_u64;
@@ -35,7 +32,7 @@ pub fn lowest_one(word: u64) -> usize
 
 // Where the j-th one of a word is, counted from 1; 64 if it has fewer or j is 0. The ones below it are taken away.
 fn picked(word: u64, j: usize) -> usize
-    ensures { result ≡ or_end word_bits (kth (digit word) word_bits j) }
+    ensures { result ≡ unwrap_or (kth (digit word) word_bits j) word_bits }
 {
     if j == 0 {
         return WORD_BITS;
@@ -56,7 +53,7 @@ fn picked(word: u64, j: usize) -> usize
 // and then looked into.
 fn nth_one(word: u64, j: usize) -> usize
     requires { (0 < j) × (j ≤ count_ones word) }
-    ensures { kth (digit word) word_bits j ≡ At result }
+    ensures { kth (digit word) word_bits j ≡ Some result }
 {
     if j <= FEW {
         return picked(word, j);
@@ -111,48 +108,48 @@ fn marks_in(words: &[u64], v: u64, w: usize) -> u64
 }
 
 // The k-th bit that equals v, at `from` or beyond, where every bit is 0.
-fn among_zeros(len: usize, v: u64, from: usize, k: usize) -> Spot
+fn among_zeros(len: usize, v: u64, from: usize, k: usize) -> Option<usize>
     ensures { result ≡ bit_from (λ i. 0) len v from k }
 {
     if v != 0 {
-        return Spot::Missing;
+        return None;
     }
     if k == 0 {
-        return Spot::Missing;
+        return None;
     }
     if len <= from {
-        return Spot::Missing;
+        return None;
     }
     if len - from < k {
-        return Spot::Missing;
+        return None;
     }
-    Spot::At(from + (k - 1))
+    Some(from + (k - 1))
 }
 
 // The k-th zero at `from` or beyond, if the word of `from` has it.
-fn near_zero(words: &[u64], len: usize, from: usize, k: usize) -> Spot
+fn near_zero(words: &[u64], len: usize, from: usize, k: usize) -> Option<usize>
     ensures { result ≡ zero_from (bit words.now) (min len ((from / word_bits + 1) * word_bits)) from k }
 {
     let w = from / WORD_BITS;
     let before = from % WORD_BITS;
     let near = picked(marks_in(words, 0, w) >> before << before, k);
     if near == WORD_BITS {
-        return Spot::Missing;
+        return None;
     }
     let p = w * WORD_BITS + near;
-    if p < len { Spot::At(p) } else { Spot::Missing }
+    if p < len { Some(p) } else { None }
 }
 
 // The k-th bit that equals v, at `from` or beyond: whole words are passed by their count, and the one that has it is
 // looked into.
-fn bit_from(words: &[u64], len: usize, v: u64, from: usize, k: usize) -> Spot
+fn bit_from(words: &[u64], len: usize, v: u64, from: usize, k: usize) -> Option<usize>
     ensures { result ≡ bit_from (bit words.now) len v from k }
 {
     if k == 0 {
-        return Spot::Missing;
+        return None;
     }
     if len <= from {
-        return Spot::Missing;
+        return None;
     }
     let mut w = from / WORD_BITS;
     if words.len() <= w {
@@ -164,7 +161,7 @@ fn bit_from(words: &[u64], len: usize, v: u64, from: usize, k: usize) -> Spot
     let mut left = k;
     while count < left {
         if len / WORD_BITS <= w {
-            return Spot::Missing;
+            return None;
         }
         left -= count;
         w += 1;
@@ -177,13 +174,13 @@ fn bit_from(words: &[u64], len: usize, v: u64, from: usize, k: usize) -> Spot
     let start = w * WORD_BITS;
     let p = nth_one(x, left);
     if p < len - start {
-        return Spot::At(start + p);
+        return Some(start + p);
     }
-    Spot::Missing
+    None
 }
 
 // The k-th zero.
-pub fn zero_at(words: &[u64], len: usize, k: usize) -> Spot
+pub fn zero_at(words: &[u64], len: usize, k: usize) -> Option<usize>
     ensures { result ≡ zero_at (bit words.now) len k }
 {
     zero_from(words, len, 0, k)
@@ -193,30 +190,30 @@ pub fn zero_at(words: &[u64], len: usize, k: usize) -> Spot
 // the sequence.
 // The next zeros of a walk are near: where few are asked for, the first word is looked into before its bits are
 // counted.
-pub fn zero_from(words: &[u64], len: usize, from: usize, k: usize) -> Spot
+pub fn zero_from(words: &[u64], len: usize, from: usize, k: usize) -> Option<usize>
     ensures { result ≡ zero_from (bit words.now) len from k }
 {
     if k <= FEW {
-        if let Spot::At(p) = near_zero(words, len, from, k) {
-            return Spot::At(p);
+        if let Some(p) = near_zero(words, len, from, k) {
+            return Some(p);
         }
     }
     bit_from(words, len, 0, from, k)
 }
 
 // The m-th one.
-pub fn one_at(words: &[u64], len: usize, m: usize) -> Spot
+pub fn one_at(words: &[u64], len: usize, m: usize) -> Option<usize>
     ensures { result ≡ one_at (bit words.now) len m }
 {
     bit_from(words, len, 1, 0, m)
 }
 
 // The k-th one before `from`, counted down. From the m-th one it is the one m - k of the sequence.
-pub fn one_back(words: &[u64], from: usize, k: usize) -> Spot
+pub fn one_back(words: &[u64], from: usize, k: usize) -> Option<usize>
     ensures { result ≡ one_back (bit words.now) from k }
 {
     if k == 0 {
-        return Spot::Missing;
+        return None;
     }
     let mut w = from / WORD_BITS;
     let mut x = word_at(words, w) & ((1u64 << (from % WORD_BITS)) - 1);
@@ -227,12 +224,12 @@ pub fn one_back(words: &[u64], from: usize, k: usize) -> Spot
     let mut seen = ones_in(x);
     while seen < k {
         if w == 0 {
-            return Spot::Missing;
+            return None;
         }
         w -= 1;
         x = words[w];
         seen += ones_in(x);
     }
     // counted down it is the k-th of those seen
-    Spot::At(w * WORD_BITS + nth_one(x, seen - (k - 1)))
+    Some(w * WORD_BITS + nth_one(x, seen - (k - 1)))
 }

@@ -18,7 +18,7 @@ use Rattle.keymap.specs.Image.{Image}
 use Rattle.keymap.specs.Decode.{take_trees, drop_trees, claim, rebuild, rows_from, degrees_in, rows_in, decode, image_map}
 use Rattle.louds.specs.Rank.{gap}
 use Rattle.louds.specs.Select.{kth, onward}
-use Rattle.louds.specs.Nodes.{or_end, run_from, children_of}
+use Rattle.louds.specs.Nodes.{run_from, children_of}
 use Rattle.image.specs.AcceptTest.{entry_fits, labels_rise, one_fits, childless_fits, bit_fits, passes_from, lengths_fit, ends_fit, image_test}
 use Rattle.walks.specs.Rule.{matches, is_child_by, lowest_by, child_by, value_of_node}
 use Rattle.walks.specs.Stands.{is_stand, kids_from, kid_from}
@@ -157,5 +157,5 @@ moves =
     ∷ []
 
 pub worked-moves : map (λ (x : Made). moved x.lent x.move) moves ≡ map (λ (x : Made). x.says) moves
-unfolding moved moves map_a nested damaged place_number answer_by query_by follow_from goto_by bit sum_below gap kth onward or_end run_from children_of matches is_child_by lowest_by child_by value_of_node is_stand kids_from kid_from goes_through only_kid glides glided_from
+unfolding moved moves map_a nested damaged place_number answer_by query_by follow_from goto_by bit sum_below gap kth onward run_from children_of matches is_child_by lowest_by child_by value_of_node is_stand kids_from kid_from goes_through only_kid glides glided_from
 worked-moves = refl

@@ -8,8 +8,7 @@
 --     follow_by      the labels of a query, one after another
 --     goto_by        down to where the keys below a node part
 -- Assumes nothing.
-use Rattle.std.specs.Prelude.{ℕ, ◌+◌, cond, [], ◌∷◌, eqb, ltb}
-use Rattle.std.proofs.Math.Option.{Option, none, some}
+use Rattle.std.specs.Prelude.{ℕ, ◌+◌, cond, [], ◌∷◌, eqb, ltb, Option, None, Some}
 use Rattle.keymap.specs.Key.{Key}
 use Rattle.keymap.specs.Bits.{bit}
 use Rattle.keymap.specs.Image.{Image, bits_for}
@@ -49,8 +48,8 @@ held_in i k = value_of_node i.labels i.values k
 
 -- of one with children, by its value
 abbrev pub inner_says : Option ℕ → Answer
-inner_says none = Prefix
-inner_says (some v) = PrefixAndMatch
+inner_says None = Prefix
+inner_says (Some v) = PrefixAndMatch
 
 unfoldable pub answer_by : Image → Stand → Answer
 answer_by i s = cond (eqb (count_from i s) 0) Match (inner_says (held_in i s.node))
@@ -58,8 +57,8 @@ answer_by i s = cond (eqb (count_from i s) 0) Match (inner_says (held_in i s.nod
 -- ---- one label
 
 abbrev pub query_to : Image → ℕ → Option ℕ → QueryMove
-query_to i k none = record { answer = queried.NoMatch; node = k }
-query_to i k (some m) = record { answer = queried.Found (answer_by i (stand_in i m)); node = place_number m }
+query_to i k None = record { answer = queried.NoMatch; node = k }
+query_to i k (Some m) = record { answer = queried.Found (answer_by i (stand_in i m)); node = place_number m }
 
 -- from node k to its child with label a
 unfoldable pub query_by : Image → ℕ → ℕ → QueryMove
@@ -79,8 +78,8 @@ follow_ends i j k =
 
 -- on to a child if there is one, else the walk stops
 abbrev pub follow_to : Option ℕ → FollowMove → (ℕ → FollowMove) → FollowMove
-follow_to none stops on = stops
-follow_to (some m) stops on = on m
+follow_to None stops on = stops
+follow_to (Some m) stops on = on m
 
 -- from node k, j labels on, by those that are left
 unfoldable pub follow_from : Image → Key → ℕ → ℕ → FollowMove
@@ -96,8 +95,8 @@ follow_by i k q = follow_from i q 0 k
 
 -- by the value where a glide ended, and how far that is
 abbrev pub gone_to : Option ℕ → ℕ → Gone
-gone_to none d = gone.Err d
-gone_to (some v) d = gone.Ok d
+gone_to None d = gone.Err d
+gone_to (Some v) d = gone.Ok d
 
 abbrev pub goto_ends : Image → Glided → GotoMove
 goto_ends i g =

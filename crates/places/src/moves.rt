@@ -6,9 +6,9 @@ ghost use Rattle.places.specs.Moves.{place_number, answer_by, query_by, follow_b
 
 use crate::answers::{Answer, FollowMove, Followed, Gone, GotoMove, Queried, QueryMove};
 use louds::{Children, children};
-use walks::entries::{Held, value_at};
+use walks::entries::value_at;
 use walks::glide::glide;
-use walks::moves::{Reached, down};
+use walks::moves::down;
 use walks::stands::{Stand, kid_at, kids, stand_at};
 
 // A node's number as a place has it; of a larger one than a place can have 0, which is no node's.
@@ -31,8 +31,8 @@ fn answer_at(labels: &[u16], values: &[u32], words: &[u64], s: Stand) -> Answer
         return Answer::Match;
     }
     match value_at(labels, values, s.node) {
-        Held::Value(_) => Answer::PrefixAndMatch,
-        Held::NoValue => Answer::Prefix,
+        Some(_) => Answer::PrefixAndMatch,
+        None => Answer::Prefix,
     }
 }
 
@@ -42,7 +42,7 @@ pub fn step_by(labels: &[u16], values: &[u32], words: &[u64], node: u32, label: 
 {
     let len = 2 * labels.len() + 3;
     let s = stand_at(words, len, node as usize);
-    let Reached::To(t) = down(labels, words, len, s, label) else {
+    let Some(t) = down(labels, words, len, s, label) else {
         return QueryMove {
             answer: Queried::NoMatch,
             node,
@@ -62,7 +62,7 @@ pub fn follow(labels: &[u16], values: &[u32], words: &[u64], node: u32, query: &
     let mut s = stand_at(words, len, node as usize);
     let mut j: usize = 0;
     while j < query.len() {
-        let Reached::To(t) = down(labels, words, len, s, query[j]) else {
+        let Some(t) = down(labels, words, len, s, query[j]) else {
             return FollowMove {
                 answer: Followed::Err(j),
                 node: place_number(s.node),
@@ -116,11 +116,11 @@ pub fn go_down(labels: &[u16], values: &[u32], words: &[u64], node: u32) -> Goto
     let distance = g.steps + 1;
     let end = g.stand.node;
     match value_at(labels, values, end) {
-        Held::Value(_) => GotoMove {
+        Some(_) => GotoMove {
             answer: Gone::Ok(distance),
             node: place_number(end),
         },
-        Held::NoValue => GotoMove {
+        None => GotoMove {
             answer: Gone::Err(distance),
             node: place_number(end),
         },

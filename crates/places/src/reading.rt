@@ -10,7 +10,7 @@ use climbs::answers::Spelled;
 use climbs::perches::depth;
 use climbs::spelling::spell;
 use image::is_image;
-use walks::entries::{Held, is_node, value_at};
+use walks::entries::{is_node, value_at};
 
 // The place at a node's number.
 pub fn resume(labels: &[u16], values: &[u32], words: &[u64], node: u32) -> Resumed
@@ -37,8 +37,8 @@ pub fn value(labels: &[u16], values: &[u32], words: &[u64], place: Place) -> Val
         return Valued::BadPlace;
     }
     match value_at(labels, values, node as usize) {
-        Held::Value(found) => Valued::Value(found),
-        Held::NoValue => Valued::NoValue,
+        Some(found) => Valued::Value(found),
+        None => Valued::NoValue,
     }
 }
 

@@ -6,8 +6,7 @@
 --     pool_map       the map
 --     Holds          a key is in it with a value, read off the records
 -- Assumes nothing.
-use Rattle.std.specs.Prelude.{ℕ, zero, suc, ◌≡◌, cond, eqb}
-use Rattle.std.proofs.Math.Option.{none, some}
+use Rattle.std.specs.Prelude.{ℕ, zero, suc, ◌≡◌, cond, eqb, None, Some}
 use Rattle.keymap.specs.Key.{Key}
 use Rattle.keymap.specs.Map.{Map}
 use Rattle.keymap.specs.Forest.{Forest, empty, node, list_tree}
@@ -29,10 +28,10 @@ unfoldable pub pool_forest : Pool → Forest
 pool_forest p = forest_below (last_record p) p 0
 
 unfoldable pub pool_map : Pool → Map
-pool_map p = list_tree (none, pool_forest p)
+pool_map p = list_tree (None, pool_forest p)
 
 pub record Holds (p : Pool) (k : Key) (v : ℕ) : Type 0 where
   pub at : ℕ
   pub used : InUse p at
   pub spelled : Spells p 0 k at
-  pub valued : record_value p at ≡ some v
+  pub valued : record_value p at ≡ Some v

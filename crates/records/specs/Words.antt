@@ -18,8 +18,7 @@
 --     Bounded       every word is of 32 bits
 --     capacity      how many records besides the root there may be
 -- Assumes nothing.
-use Rattle.std.specs.Prelude.{ℕ, ◌+◌, ◌-◌, ◌*◌, ◌/◌, ◌<◌, ◌≤◌, min, ◌≡◌, ◌⊎◌, List, length, get_or, set}
-use Rattle.std.proofs.Math.Option.{Option}
+use Rattle.std.specs.Prelude.{ℕ, ◌+◌, ◌-◌, ◌*◌, ◌/◌, ◌<◌, ◌≤◌, min, ◌≡◌, ◌⊎◌, List, length, get_or, set, Option}
 use Rattle.keymap.specs.Limits.{most_records, value_limit}
 use Rattle.keymap.specs.Label.{label_in, value_in}
 

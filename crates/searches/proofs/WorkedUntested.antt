@@ -7,7 +7,7 @@ use Rattle.keymap.specs.Bits.{bit, sum_below}
 use Rattle.keymap.specs.Key.{Key}
 use Rattle.louds.specs.Rank.{gap}
 use Rattle.louds.specs.Select.{kth}
-use Rattle.louds.specs.Nodes.{or_end, run_from, children_of}
+use Rattle.louds.specs.Nodes.{run_from, children_of}
 use Rattle.image.specs.AcceptTest.{lengths_fit}
 use Rattle.image.specs.Meaning.{as_image}
 use Rattle.walks.specs.Rule.{matches, is_child_by, lowest_by, child_by, walked_from, value_of_node}
@@ -66,5 +66,5 @@ cases =
     ∷ []
 
 pub worked-untested : answers cases ≡ cases
-unfolding bit gap sum_below kth or_end run_from children_of lengths_fit matches is_child_by lowest_by child_by walked_from value_of_node untested_says
+unfolding bit gap sum_below kth run_from children_of lengths_fit matches is_child_by lowest_by child_by walked_from value_of_node untested_says
 worked-untested = refl

@@ -6,8 +6,7 @@
 --     goes_on                                 the node at a query has children, on any slices
 --     exact_says, set_values, is_prefix_says  what the calls promise, of the map
 -- Assumes nothing.
-use Rattle.std.specs.Prelude.{ℕ, ◌-◌, Bool, false, cond, List, length, set, ltb}
-use Rattle.std.proofs.Math.Option.{Option, none, some}
+use Rattle.std.specs.Prelude.{ℕ, ◌-◌, Bool, false, cond, List, length, set, ltb, Option, None, Some}
 use Rattle.keymap.specs.Key.{Key}
 use Rattle.keymap.specs.Map.{lookup}
 use Rattle.keymap.specs.Queries.{is_prefix_in}
@@ -27,16 +26,16 @@ use Rattle.searches.specs.declared.exact.Keyed.TheVariants.{At, NoKey}
 
 -- a key by its node and its value
 abbrev pub keyed : Option ℕ → Option ℕ → Keyed
-keyed none o = NoKey
-keyed (some m) none = NoKey
-keyed (some m) (some v) = At m v
+keyed None o = NoKey
+keyed (Some m) None = NoKey
+keyed (Some m) (Some v) = At m v
 
 unfoldable pub keyed_in : Image → Key → Keyed
 keyed_in i q = keyed (node_by i q) (found_by i q)
 
 abbrev pub goes_on_from : (ℕ → ℕ) → ℕ → Option ℕ → Bool
-goes_on_from b len none = false
-goes_on_from b len (some k) = ltb 0 (kids_from b len (stand_at b len k)).count
+goes_on_from b len None = false
+goes_on_from b len (Some k) = ltb 0 (kids_from b len (stand_at b len k)).count
 
 unfoldable pub goes_on : List ℕ → List ℕ → Key → Bool
 goes_on ls ws q = goes_on_from (bit ws) (bits_for (length ls)) (walked ls (bit ws) (bits_for (length ls)) q)
@@ -48,8 +47,8 @@ exact_says i q = on_image i (says_value (lookup q (image_map i)))
 
 -- the values with v for the node's: node m has entry m - 2
 abbrev pub set_at : List ℕ → ℕ → Option ℕ → ℕ → List ℕ
-set_at vs node none v = vs
-set_at vs node (some w) v = set vs (node - 2) v
+set_at vs node None v = vs
+set_at vs node (Some w) v = set vs (node - 2) v
 
 unfoldable pub set_values : Image → Key → ℕ → List ℕ
 set_values i q v = cond (image_test i) (set_at i.values (node_of (image_map i) q) (lookup q (image_map i)) v) i.values

@@ -2,8 +2,7 @@
 -- are none or it is empty.
 -- It is written to a lent buffer and its length answered; no match writes nothing."
 -- Assumes nothing.
-use Rattle.std.specs.Prelude.{ℕ, cond, List, [], ◌∷◌}
-use Rattle.std.proofs.Math.Option.{Option, none, some}
+use Rattle.std.specs.Prelude.{ℕ, cond, List, [], ◌∷◌, Option, None, Some}
 use Rattle.keymap.specs.Key.{Key}
 use Rattle.keymap.specs.Queries.{longest_prefix_in}
 use Rattle.keymap.specs.Answers.{says_written, written_key}
@@ -13,8 +12,8 @@ use Rattle.image.specs.AcceptTest.{image_test}
 use Rattle.image.specs.AcceptAnswer.{on_image}
 
 abbrev pub says_longest : Option Key → List ℕ → List ℕ
-says_longest none out = 0 ∷ []
-says_longest (some k) out = says_written k out
+says_longest None out = 0 ∷ []
+says_longest (Some k) out = says_written k out
 
 unfoldable pub longest_says : Image → Key → List ℕ → List ℕ
 longest_says i q out = on_image i (says_longest (longest_prefix_in q (image_map i)) out)

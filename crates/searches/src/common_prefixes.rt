@@ -1,27 +1,25 @@
 // The keys that are prefixes of a query, after `src/iter/prefix_iter.rs`: one call for each, with the length that was
 // seen already.
 // A seen length at or past the query's end gives no match, and nothing is added to it.
-ghost use Rattle.std.specs.Prelude.{◌≡◌};
-ghost use Rattle.std.proofs.Math.Option.{some};
+ghost use Rattle.std.specs.Prelude.{◌≡◌, Some};
 ghost use Rattle.image.specs.Meaning.{lent_image};
 ghost use Rattle.walks.specs.Rule.{value_of_node};
-ghost use Rattle.walks.specs.Stands.{held_of};
 ghost use Rattle.searches.specs.Answers.{said_common};
 ghost use Rattle.searches.specs.CommonPrefixes.{unless_seen, shortest_from, match_of, common_says, part_length};
 ghost use Rattle.searches.specs.CommonPrefixes.{common_part};
 
 use crate::answers::Common;
 use image::is_image;
-use walks::entries::{Held, value_at};
-use walks::moves::{Reached, down};
+use walks::entries::value_at;
+use walks::moves::down;
 use walks::stands::stand_at;
 
 // The value of a node at a depth, unless that much was seen.
-fn unseen_value(labels: &[u16], values: &[u32], node: usize, depth: usize, seen: usize) -> Held
-    ensures { result ≡ held_of (unless_seen seen depth (value_of_node labels.now values.now node)) }
+fn unseen_value(labels: &[u16], values: &[u32], node: usize, depth: usize, seen: usize) -> Option<u32>
+    ensures { result ≡ (unless_seen seen depth (value_of_node labels.now values.now node)) }
 {
     if depth <= seen {
-        return Held::NoValue;
+        return None;
     }
     value_at(labels, values, node)
 }
@@ -29,25 +27,25 @@ fn unseen_value(labels: &[u16], values: &[u32], node: usize, depth: usize, seen:
 // The shortest key, by a walk down the query that stops at the first value past what was seen: the image is not tested.
 fn shortest(labels: &[u16], values: &[u32], words: &[u64], query: &[u8], seen: usize) -> Common
     ensures { result
-        ≡ match_of (shortest_from (lent_image labels values words) seen query.now 0 (some 1)) }
+        ≡ match_of (shortest_from (lent_image labels values words) seen query.now 0 (Some 1)) }
 {
     let len = 2 * labels.len() + 3;
     let mut s = stand_at(words, len, 1);
     let mut depth: usize = 0;
     while depth < query.len() {
-        let Reached::To(t) = down(labels, words, len, s, query[depth]) else {
+        let Some(t) = down(labels, words, len, s, query[depth]) else {
             return Common::NoMatch;
         };
         s = t;
         depth += 1;
         match unseen_value(labels, values, t.node, depth, seen) {
-            Held::Value(value) => {
+            Some(value) => {
                 return Common::Match {
                     length: depth,
                     value,
                 };
             }
-            Held::NoValue => {}
+            None => {}
         }
     }
     Common::NoMatch

@@ -9,8 +9,7 @@ ghost use Rattle.searches.specs.Exact.{keyed_in, goes_on, exact_says, set_values
 use crate::answers::{Looked, Prefixed};
 use descents::{end_of, walk};
 use image::is_image;
-use walks::entries::{Child, Held, value_at};
-use walks::moves::Reached;
+use walks::entries::value_at;
 use walks::stands::kids;
 
 // A key by its node.
@@ -25,12 +24,12 @@ pub fn find(labels: &[u16], values: &[u32], words: &[u64], query: &[u8]) -> Keye
     ensures { result ≡ keyed_in (lent_image labels values words) query.now }
 {
     let len = 2 * labels.len() + 3;
-    let Child::Node(node) = end_of(labels, words, len, query) else {
+    let Some(node) = end_of(labels, words, len, query) else {
         return Keyed::NoKey;
     };
     match value_at(labels, values, node) {
-        Held::Value(value) => Keyed::At { node, value },
-        Held::NoValue => Keyed::NoKey,
+        Some(value) => Keyed::At { node, value },
+        None => Keyed::NoKey,
     }
 }
 
@@ -74,7 +73,7 @@ fn goes_on(labels: &[u16], words: &[u64], query: &[u8]) -> bool
     ensures { result ≡ goes_on labels.now words.now query.now }
 {
     let len = 2 * labels.len() + 3;
-    let Reached::To(s) = walk(labels, words, len, query) else {
+    let Some(s) = walk(labels, words, len, query) else {
         return false;
     };
     let k = kids(words, len, s);

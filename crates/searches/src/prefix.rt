@@ -9,7 +9,6 @@ use climbs::spelling::spell;
 use descents::walk;
 use image::is_image;
 use walks::glide::glide;
-use walks::moves::Reached;
 
 // The longest common prefix of all keys that begin with a query, its own among them, written to the front of a buffer.
 // The buffer is compared with its length.
@@ -27,7 +26,7 @@ pub fn longest_prefix(
         return Longest::NotAnImage;
     }
     let len = 2 * labels.len() + 3;
-    let Reached::To(s) = walk(labels, words, len, query) else {
+    let Some(s) = walk(labels, words, len, query) else {
         return Longest::NoMatch;
     };
     let g = glide(labels, values, words, len, s);

@@ -9,7 +9,7 @@ use Prim.Native.Nat.{ℕ, ◌-◌}
 use native.Mathlib.Omega.{arith}
 use mathlib.Core.Bool.{Bool, true, false, cond, true≢false}
 use mathlib.Core.List.{List, [], ◌∷◌, ◌++◌}
-use mathlib.Core.Option.{Option, none, some}
+use Rattle.std.specs.Prelude.{Option, None, Some}
 use lib.ListN.{length, take}
 use lib.Dec.{leb, ltb}
 use borrow.Author.Tests.{ne_eqb}
@@ -165,20 +165,20 @@ on-cursor i c says written lent f h =
     on-image i (cond b says (refuses Refusal.BadPlace)) (cond b written lent) lent (λ g. kept b says (refuses Refusal.BadPlace) written lent f g) h
 
 value-accepted : (o : Option ℕ) → accepted (says_value o) ≡ true
-value-accepted none = refl
-value-accepted (some v) = refl
+value-accepted None = refl
+value-accepted (Some v) = refl
 
 longest-kept : (o : Option Key) (out : List ℕ) → accepted (says_longest o out) ≡ false → written_key o out ≡ out
-longest-kept none out h = refl
-longest-kept (some k) out h = written-kept k out h
+longest-kept None out h = refl
+longest-kept (Some k) out h = written-kept k out h
 
 key-kept : (o : Option Key) (out : List ℕ) → accepted (says_key o out) ≡ false → written_key o out ≡ out
-key-kept none out h = refl
-key-kept (some k) out h = written-kept k out h
+key-kept None out h = refl
+key-kept (Some k) out h = written-kept k out h
 
 common-accepted : (o : Option Entry) → accepted (says_common o) ≡ true
-common-accepted none = refl
-common-accepted (some e) = refl
+common-accepted None = refl
+common-accepted (Some e) = refl
 
 follow-accepted : (m : Map) (p q : Key) → accepted (follow_in m p q) ≡ true
 follow-accepted m p [] = refl
@@ -194,12 +194,12 @@ goto-accepted m p =
     choice-accepted (is_prefix_in p m) (distance_says m p q) (says_ok 0) far refl
 
 entry_kept : (o : Option Entry) → accepted (entry_says o) ≡ false → entry_key o ≡ []
-entry_kept none h = refl
-entry_kept (some e) h = absurd (true≢false h)
+entry_kept None h = refl
+entry_kept (Some e) h = absurd (true≢false h)
 
 no_part : (b : Bool) (o : Option Entry) (other : List ℕ) (q : Key) → cond b (says_common o) other ≡ 0 ∷ [] → cond b (part_of q o) [] ≡ []
-no_part true none other q h = refl
-no_part true (some e) other q h = let z : ◌≡◌ {A = List ℕ} (length e.0 ∷ e.1 ∷ []) [] = cc in let w : ◌≡◌ {A = ℕ} 0 1 = cc in absurd (omega arith)
+no_part true None other q h = refl
+no_part true (Some e) other q h = let z : ◌≡◌ {A = List ℕ} (length e.0 ∷ e.1 ∷ []) [] = cc in let w : ◌≡◌ {A = ℕ} 0 1 = cc in absurd (omega arith)
 no_part false o other q h = refl
 
 line_kept : (b : Bool) (out line says : List ℕ) → accepted says ≡ true → accepted (cond b (refuses Refusal.KeyRoom) says) ≡ false → cond b out line ≡ out

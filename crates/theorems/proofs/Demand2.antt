@@ -10,7 +10,7 @@ use native.Mathlib.Omega.{arith}
 use mathlib.Core.Logic.{inr}
 use mathlib.Core.Bool.{Bool, true, false, cond}
 use mathlib.Core.List.{List, [], ◌∷◌, ◌++◌}
-use mathlib.Core.Option.{Option, none, some}
+use Rattle.std.specs.Prelude.{Option, None, Some}
 use lib.ListN.{length, take}
 use Rattle.keymap.specs.Limits.{value_limit, most_records}
 use Rattle.keymap.specs.Members.{In}
@@ -182,11 +182,11 @@ module _ (i : Image) (h : MapImage i) where
   set_keeps q v small = go (lookup q m) refl
     where
       go : (o : Option ℕ) → lookup q m ≡ o → MapImage (set_in_image i q v) × (image_map (set_in_image i q v) ≡ set_in_map m q v)
-      go none e =
+      go None e =
           let values : set_values i q v ≡ i.values = set_values-absent i q test v e in
           let same : set_in_image i q v ≡ i = λ x. record { labels = i.labels; values = values x; words = i.words } in
           (subst MapImage (sym same) h, ap image_map same ∙ rw e refl)
-      go (some w) e = (set_value-keeps-image i h test q v w e small, set_value-means-insert i h test q v w e small ∙ rw e refl)
+      go (Some w) e = (set_value-keeps-image i h test q v w e small, set_value-means-insert i h test q v w e small ∙ rw e refl)
 
 all-sets : (es : List Entry) (i : Image) → MapImage i → AllSmall es → Searches (set_all es (image_map i)) (set_all_in es i)
 unfolding set_all set_all_in

@@ -9,7 +9,8 @@ use mathlib.Core.Path.{◌≡◌, refl, sym, ap, ◌∙◌}
 use mathlib.Core.Bool.{Bool, true, false}
 use mathlib.Core.Logic.{◌↔◌}
 use mathlib.Core.List.{List, [], ◌∷◌}
-use mathlib.Core.Option.{Option, none, some, none-ne-some, some-injective}
+use Rattle.std.specs.Prelude.{Option, None, Some}
+use Rattle.std.proofs.lemmas.Option.{none-some, same_Some}
 use native.Mathlib.Omega.{arith}
 use lib.ListN.{length}
 use lib.Dec.{ltb}
@@ -28,26 +29,26 @@ use Rattle.theorems.specs.Lines.{EveryNumber, EveryLine, EveryWrite, EveryCut, R
 pub every-number : EveryNumber
 unfolding number_in
 every-number t v = (
-  λ h. let e : number_in t ≡ some v = rw h.0 (ap some h.1) in (number_in-below t v e, number_in-one t v e),
+  λ h. let e : number_in t ≡ Some v = rw h.0 (ap Some h.1) in (number_in-below t v e, number_in-one t v e),
   λ h. back (is_decimal t) refl (ap number_in h.1 ∙ number_in-decimal v h.0),
 )
   where
-    back : (d : Bool) → is_decimal t ≡ d → number_in t ≡ some v → (is_decimal t ≡ true) × (value_after 0 t ≡ v)
-    back true d e = (d, some-injective (value_after 0 t) v (rw d at e))
-    back false d e = absurd (none-ne-some v (rw d at e))
+    back : (d : Bool) → is_decimal t ≡ d → number_in t ≡ Some v → (is_decimal t ≡ true) × (value_after 0 t ≡ v)
+    back true d e = (d, same_Some (value_after 0 t) v (rw d at e))
+    back false d e = absurd (none-some v (rw d at e))
 
 -- what is said of a line tells its entry
-said-entry : (o : Option Entry) (e : Entry) → (entry_says o ≡ 0 ∷ length e.0 ∷ e.1 ∷ []) × (entry_key o ≡ e.0) → o ≡ some e
-said-entry none e h = absurd (let said : 9 ∷ [] ≡ 0 ∷ length e.0 ∷ e.1 ∷ [] = h.0 in let z : ◌≡◌ {A = ℕ} 0 9 = cc in omega arith)
-said-entry (some d) e h =
+said-entry : (o : Option Entry) (e : Entry) → (entry_says o ≡ 0 ∷ length e.0 ∷ e.1 ∷ []) × (entry_key o ≡ e.0) → o ≡ Some e
+said-entry None e h = absurd (let said : 9 ∷ [] ≡ 0 ∷ length e.0 ∷ e.1 ∷ [] = h.0 in let z : ◌≡◌ {A = ℕ} 0 9 = cc in omega arith)
+said-entry (Some d) e h =
     let said : 0 ∷ length d.0 ∷ d.1 ∷ [] ≡ 0 ∷ length e.0 ∷ e.1 ∷ [] = h.0 in
     let value : d.1 ≡ e.1 = cc in
     let key : d.0 ≡ e.0 = h.1 in
-    λ i. some (key i, value i)
+    λ i. Some (key i, value i)
 
-said-none : (o : Option Entry) → entry_says o ≡ refuses Refusal.BadLine → o ≡ none
-said-none none h = refl
-said-none (some e) h = absurd (let said : 0 ∷ length e.0 ∷ e.1 ∷ [] ≡ 9 ∷ [] = h in let z : ◌≡◌ {A = ℕ} 0 9 = cc in omega arith)
+said-none : (o : Option Entry) → entry_says o ≡ refuses Refusal.BadLine → o ≡ None
+said-none None h = refl
+said-none (Some e) h = absurd (let said : 0 ∷ length e.0 ∷ e.1 ∷ [] ≡ 9 ∷ [] = h in let z : ◌≡◌ {A = ℕ} 0 9 = cc in omega arith)
 
 read-line : (line : List ℕ) (e : Entry) → ((tab_line_says line ≡ 0 ∷ length e.0 ∷ e.1 ∷ []) × (tab_line_key line ≡ e.0)) ↔ (Plain e × (line ≡ tab_line e))
 unfolding tab_line_says tab_line_key
@@ -59,13 +60,13 @@ read-line line e = (
 bad-line : (line : List ℕ) → (tab_line_says line ≡ refuses Refusal.BadLine) ↔ ((e : Entry) → Plain e → line ≡ tab_line e → ⊥)
 unfolding tab_line_says
 bad-line line = (
-  λ h e p w. none-ne-some e (sym (said-none (tab_entry line) h) ∙ (tab_entry-iff line e).1 (p, w)),
+  λ h e p w. none-some e (sym (said-none (tab_entry line) h) ∙ (tab_entry-iff line e).1 (p, w)),
   λ h. go h (tab_entry line) refl,
 )
   where
     go : ((e : Entry) → Plain e → line ≡ tab_line e → ⊥) → (o : Option Entry) → tab_entry line ≡ o → entry_says (tab_entry line) ≡ refuses Refusal.BadLine
-    go h none t = ap entry_says t
-    go h (some e) t = let (p, w) = (tab_entry-iff line e).0 t in absurd (h e p w)
+    go h None t = ap entry_says t
+    go h (Some e) t = let (p, w) = (tab_entry-iff line e).0 t in absurd (h e p w)
 
 pub every-line : EveryLine
 every-line line = record { reads = read-line line; refusal = bad-line line }

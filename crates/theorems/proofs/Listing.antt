@@ -5,9 +5,9 @@ use mathlib.Core.Path.{◌≡◌, refl, sym, ap, ◌∙◌}
 use Prim.Native.Nat.{ℕ, zero, suc, ◌-◌}
 use native.Mathlib.Omega.{arith}
 use mathlib.Core.Bool.{true}
-use mathlib.Core.List.{List, [], ◌∷◌, ◌++◌, map, head?, append_assoc}
+use mathlib.Core.List.{List, [], ◌∷◌, ◌++◌, map, append_assoc}
 use lib.ListN.{length, take, replicate}
-use Rattle.keymap.specs.Members.{In, here, there}
+use Rattle.keymap.specs.Members.{In, here, there, head_of}
 use Rattle.keymap.specs.Key.{Key}
 use Rattle.keymap.specs.Map.{Entry, Map, Rising}
 use Rattle.keymap.specs.Queries.{least_above}
@@ -88,7 +88,7 @@ module _ (i : Image) (image : MapImage i) (kind : Kind) (q : Key) where
   ends (suc k) = steps_on k i (Finished kind) (Finished kind) (says_end kind) (replicate k (says_end kind)) (step_says-finished i kind test) (next-end kind (Finished kind)) (ends k)
 
   -- the step behind an entry
-  behind : (before : Map) (e : Entry) (rest : Map) → before ++ (e ∷ rest) ≡ set → step_says i (Open kind top (node_of m e.0)) ≡ says_step m kind top (head? rest)
+  behind : (before : Map) (e : Entry) (rest : Map) → before ++ (e ∷ rest) ≡ set → step_says i (Open kind top (node_of m e.0)) ≡ says_step m kind top (head_of rest)
   behind before e rest w =
       let member : In e set = rw (sym w) (middle before) in
       step_says-open i kind top (node_of m e.0) test (belongs-at m rises kind q e member)
@@ -116,8 +116,8 @@ module _ (i : Image) (image : MapImage i) (kind : Kind) (q : Key) where
       let node = top-node m rises kind q e (rw (sym w) (here refl)) in
       let first : step_says i (Open kind top 0) ≡ says_entry m kind q e =
       step_says-open i kind top 0 test (belongs-fresh m rises kind top (node_of-node m q node))
-      ∙ ap (λ (p : Key). says_step m kind top (head? (set_of m kind p))) (path_of-node_of m q node)
-      ∙ ap (λ (t : Map). says_step m kind top (head? t)) (sym w) in
+      ∙ ap (λ (p : Key). says_step m kind top (head_of (set_of m kind p))) (path_of-node_of m q node)
+      ∙ ap (λ (t : Map). says_step m kind top (head_of t)) (sym w) in
       steps_on k i (Open kind top 0) (Open kind top (node_of m e.0)) (says_entry m kind q e) (given_in k m kind q rest) first (next-entry m kind q e (Open kind top 0)) (from-entry k [] e rest w)
       ∙ sym (given-entry m kind q k e rest)
 

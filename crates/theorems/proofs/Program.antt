@@ -3,7 +3,7 @@ use Prim.Native.Nat.{ℕ, ◌+◌, ◌≤◌, ◌<◌}
 use mathlib.Core.Path.{◌≡◌, refl, ap, ◌∙◌}
 use mathlib.Core.Logic.{◌⊎◌, inl, inr}
 use mathlib.Core.List.{List, [], ◌∷◌}
-use mathlib.Core.Option.{some}
+use Rattle.std.specs.Prelude.{Some}
 use native.Mathlib.Omega.{arith}
 use lib.ListN.{length}
 use Rattle.keymap.proofs.Laws.Prefixes.{prefixes-empty}
@@ -17,7 +17,7 @@ use Rattle.catalogue.proofs.Laws.Program.{listing-length}
 use Rattle.theorems.specs.Program.{ProgramWrites}
 
 -- a text that is answered so is written so
-told : (text said : List ℕ) → text_says program_capacity text ≡ said → program_text (some text) ≡ answer_text (text_map text) said
+told : (text said : List ℕ) → text_says program_capacity text ≡ said → program_text (Some text) ≡ answer_text (text_map text) said
 unfolding program_text
 told text said h = ap (answer_text (text_map text)) h
 

@@ -5,7 +5,7 @@ use Prim.Native.Nat.{ℕ}
 use native.Mathlib.Omega.{arith}
 use mathlib.Core.Bool.{Bool, true, false, true≢false}
 use mathlib.Core.List.{List}
-use mathlib.Core.Option.{Option, none, some}
+use Rattle.std.specs.Prelude.{Option, None, Some}
 use lib.ListN.{get_or}
 use Rattle.keymap.specs.Key.{Key}
 use Rattle.keymap.specs.Refusals.{refuses, NotAnImage}
@@ -22,8 +22,8 @@ use Rattle.theorems.specs.Untested.{LengthsFit, Untested}
 
 -- what is found begins with 0
 found_first : (o : Option ℕ) → says_value o ≡ refuses NotAnImage → ⊥
-found_first none e = let z : ◌≡◌ {A = ℕ} 0 6 = ap (λ (l : List ℕ). get_or l 0 0) e in omega (arith, z)
-found_first (some v) e = let z : ◌≡◌ {A = ℕ} 0 6 = ap (λ (l : List ℕ). get_or l 0 0) e in omega (arith, z)
+found_first None e = let z : ◌≡◌ {A = ℕ} 0 6 = ap (λ (l : List ℕ). get_or l 0 0) e in omega (arith, z)
+found_first (Some v) e = let z : ◌≡◌ {A = ℕ} 0 6 = ap (λ (l : List ℕ). get_or l 0 0) e in omega (arith, z)
 
 refuses-unfit : (i : Image) (q : Key) → (untested_says i q ≡ refuses NotAnImage) ↔ (LengthsFit i → ⊥)
 refuses-unfit i q = go (lengths_fit i) refl

@@ -9,8 +9,7 @@
 --     EveryMap         each map that an image can hold, after any such calls
 --     EveryBuild       each image that is built after any history, after any such calls
 -- Assumes nothing.
-use Rattle.std.specs.Prelude.{ℕ, ◌≤◌, ◌<◌, ◌≡◌, ◌↔◌, ◌⊎◌, cond, true, false, List, [], ◌∷◌, ◌++◌, length, take, drop}
-use Rattle.std.proofs.Math.Option.{none, some}
+use Rattle.std.specs.Prelude.{ℕ, ◌≤◌, ◌<◌, ◌≡◌, ◌↔◌, ◌⊎◌, cond, true, false, List, [], ◌∷◌, ◌++◌, length, take, drop, None, Some}
 use Rattle.keymap.specs.Limits.{value_limit, most_records}
 use Rattle.keymap.specs.Members.{In}
 use Rattle.keymap.specs.Key.{Key, Below, PrefixOf}
@@ -94,8 +93,8 @@ pub record Searches (m : Map) (i : Image) : Type 0 where
   pub emits : i.words ≡ pack (emitted (tree_of m).1)
   -- `exact_match`, and what `set_value` answers: "the value, or no match; the empty query never matches"
   pub exact-match : (q : Key) → exact_says i q ≡ says_value (lookup q m)
-  pub entries : (q : Key) (v : ℕ) → (lookup q m ≡ some v) ↔ In (q, v) m
-  pub empty-query : lookup [] m ≡ none
+  pub entries : (q : Key) (v : ℕ) → (lookup q m ≡ Some v) ↔ In (q, v) m
+  pub empty-query : lookup [] m ≡ None
   -- `is_prefix`: "yes exactly if some key begins with the query and is longer"
   pub is-prefix : (q : Key) → is_prefix_says i q ≡ says_flag (is_prefix_in q m)
   pub some-longer : (q : Key)
@@ -106,17 +105,17 @@ pub record Searches (m : Map) (i : Image) : Type 0 where
       × (longest_out i q out ≡ written_key (longest_prefix_in q m) out)
   -- "the longest common prefix of all keys beginning with the query; no match if there are none or it is empty"
   pub longest : (q p : Key)
-      → (longest_prefix_in q m ≡ some p) ↔ (SomeBegins q m × LongestCommon (set_of m Predictive q) p × (¬ (p ≡ [])))
+      → (longest_prefix_in q m ≡ Some p) ↔ (SomeBegins q m × LongestCommon (set_of m Predictive q) p × (¬ (p ≡ [])))
   pub no-longest : (q : Key)
-      → (longest_prefix_in q m ≡ none) ↔ ((¬ SomeBegins q m) ⊎ LongestCommon (set_of m Predictive q) [])
+      → (longest_prefix_in q m ≡ None) ↔ ((¬ SomeBegins q m) ⊎ LongestCommon (set_of m Predictive q) [])
   -- the answer, and "that leading part of the query itself"
   pub common-prefix : (q : Key) (seen : ℕ)
       → (common_says i q seen ≡ says_common (common_prefix_in q seen m))
       × (common_part i q seen ≡ part_of q (common_prefix_in q seen m))
   -- "the shortest key longer than that and a prefix of the query"
-  pub shortest : (q : Key) (seen : ℕ) (e : Entry) → (common_prefix_in q seen m ≡ some e) ↔ ShortestWithin q seen m e
+  pub shortest : (q : Key) (seen : ℕ) (e : Entry) → (common_prefix_in q seen m ≡ Some e) ↔ ShortestWithin q seen m e
   pub no-shortest : (q : Key) (seen : ℕ)
-      → (common_prefix_in q seen m ≡ none) ↔ ((e : Entry) → In e m → PrefixOf e.0 q → ¬ (seen < length e.0))
+      → (common_prefix_in q seen m ≡ None) ↔ ((e : Entry) → In e m → PrefixOf e.0 q → ¬ (seen < length e.0))
   -- "no path gives a finished cursor, and so does an empty set"
   pub start : (kind : Kind) (q : Key)
       → start_says kind i q
@@ -133,9 +132,9 @@ pub record Searches (m : Map) (i : Image) : Type 0 where
       → step_says i (Open kind (node_of m q) (node_of m e.0))
       ≡ says_step m kind (node_of m q) (least_above e.0 (set_of m kind q))
   pub least : (kind : Kind) (q k : Key) (e : Entry)
-      → (least_above k (set_of m kind q) ≡ some e) ↔ NextAfter k (set_of m kind q) e
+      → (least_above k (set_of m kind q) ≡ Some e) ↔ NextAfter k (set_of m kind q) e
   pub no-least : (kind : Kind) (q k : Key)
-      → (least_above k (set_of m kind q) ≡ none) ↔ ((e : Entry) → In e (set_of m kind q) → ¬ Below k e.0)
+      → (least_above k (set_of m kind q) ≡ None) ↔ ((e : Entry) → In e (set_of m kind q) → ¬ Below k e.0)
   -- that cursor has its key
   pub cursor-key : (kind : Kind) (q : Key) (e : Entry) → In e (set_of m kind q) → (out : List ℕ)
       → (key_says i (Open kind (node_of m q) (node_of m e.0)) out ≡ says_written (listed_key kind q e.0) out)

@@ -8,8 +8,7 @@
 --     EveryLine, EveryWrite, EveryCut  any bytes, any entry and buffer, any position in any text
 --     ReadBack                         the text of entries is read as these entries
 -- Assumes nothing.
-use Rattle.std.specs.Prelude.{ℕ, ◌-◌, ◌≤◌, ◌<◌, ◌≡◌, true, ◌↔◌, List, [], ◌∷◌, ◌++◌, map, length, take, drop}
-use Rattle.std.proofs.Math.Option.{some}
+use Rattle.std.specs.Prelude.{ℕ, ◌-◌, ◌≤◌, ◌<◌, ◌≡◌, true, ◌↔◌, List, [], ◌∷◌, ◌++◌, map, length, take, drop, Some}
 use Rattle.keymap.specs.Limits.{value_limit}
 use Rattle.keymap.specs.Refusals.{Refusal, refuses}
 use Rattle.keymap.specs.Map.{Entry}
@@ -55,4 +54,4 @@ EveryCut = (text : List ℕ) (at : ℕ) → CutLine text at
 
 -- "writes the listing in the same form": what is written of entries that lines can hold is read as these
 abbrev pub ReadBack : Type 0
-ReadBack = (m : List Entry) → AllPlain m → entries_of (map_text m) ≡ map (λ (e : Entry). some e) m
+ReadBack = (m : List Entry) → AllPlain m → entries_of (map_text m) ≡ map (λ (e : Entry). Some e) m

@@ -6,8 +6,7 @@
 --     listing_says      what k steps behind a start answer
 --     listing_in        what the map says they answer: the entries of the listing in turn, then the end each time
 -- Assumes nothing.
-use Rattle.std.specs.Prelude.{ℕ, zero, suc, ◌-◌, List, [], ◌∷◌, ◌++◌, map, length, take, replicate}
-use Rattle.std.proofs.Math.Option.{some}
+use Rattle.std.specs.Prelude.{ℕ, zero, suc, ◌-◌, List, [], ◌∷◌, ◌++◌, map, length, take, replicate, Some}
 use Rattle.keymap.specs.Key.{Key}
 use Rattle.keymap.specs.Map.{Entry, Map}
 use Rattle.keymap.specs.Image.{Image}
@@ -50,7 +49,7 @@ listing_says k kind i q = steps_say k i (first_cursor (start_says kind i q))
 
 -- the answer that gives an entry of the listing under a query
 abbrev pub says_entry : Map → Kind → Key → Entry → List ℕ
-says_entry m kind q e = says_step m kind (node_of m q) (some e)
+says_entry m kind q e = says_step m kind (node_of m q) (Some e)
 
 -- of some entries k steps give what there is, each once and in turn, and then the end
 unfoldable pub given_in : ℕ → Map → Kind → Key → Map → List (List ℕ)

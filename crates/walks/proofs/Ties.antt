@@ -1,13 +1,13 @@
 -- What each public call's contract says, in the definitions of specs/. Each tie is over the contract's own claim, so a contract that cites another definition breaks it.
 -- Assumes nothing.
+use Rattle.std.specs.Prelude.{unwrap_or}
 use mathlib.Core.Path.{◌≡◌}
 use Prim.Native.Nat.{◌+◌, ◌-◌, max, min}
 use lib.ListN.{length}
 use Rattle.keymap.specs.Contract.{Tells}
 use Rattle.keymap.specs.Bits.{bit}
-use Rattle.louds.specs.Nodes.{or_end}
 use Rattle.walks.specs.Rule.{is_node_of, counts_to, matches, lowest_by, value_of_node}
-use Rattle.walks.specs.Stands.{child_of, held_of, stand_at, kids_from, kid_from, down_from}
+use Rattle.walks.specs.Stands.{stand_at, kids_from, kid_from, down_from}
 use Rattle.walks.specs.Glide.{glided_from}
 use Rattle.walks.proofs.entries.is_node.Kinds as is-node-kinds
 use Rattle.walks.proofs.entries.is_node.Reads as is-node-reads
@@ -42,10 +42,10 @@ is-node-says κs a r s p = p
 pub counts-to-says : Tells 0 counts-to-kinds.ps counts-to-kinds.r counts-to-reads.Post (λ κs a r s. r ≡ counts_to a.0 a.1.0 a.1.1.0)
 counts-to-says κs a r s p = p
 
-pub value-at-says : Tells 2 value-at-kinds.ps value-at-kinds.r value-at-reads.Post (λ κs a r s. r ≡ held_of (value_of_node a.0.now a.1.0.now a.1.1.0))
+pub value-at-says : Tells 2 value-at-kinds.ps value-at-kinds.r value-at-reads.Post (λ κs a r s. r ≡ (value_of_node a.0.now a.1.0.now a.1.1.0))
 value-at-says κs a r s p = p
 
-pub or-end-says : Tells 0 or-end-kinds.ps or-end-kinds.r or-end-reads.Post (λ κs a r s. r ≡ or_end a.1.0 a.0)
+pub or-end-says : Tells 0 or-end-kinds.ps or-end-kinds.r or-end-reads.Post (λ κs a r s. r ≡ unwrap_or a.0 a.1.0)
 or-end-says κs a r s p = p
 
 pub stand-at-says : Tells 1 stand-at-kinds.ps stand-at-kinds.r stand-at-reads.Post (λ κs a r s. r ≡ stand_at (bit a.0.now) a.1.0 a.1.1.0)
@@ -72,5 +72,5 @@ smaller-says κs a r s p = p
 pub larger-says : Tells 0 larger-kinds.ps larger-kinds.r larger-reads.Post (λ κs a r s. r ≡ max a.0 a.1.0)
 larger-says κs a r s p = p
 
-pub child-within-says : Tells 1 child-within-kinds.ps child-within-kinds.r child-within-reads.Post (λ κs a r s. r ≡ child_of (lowest_by a.0.now a.1.0 (a.1.1.1.0 - a.1.1.0) (a.1.1.0 + 1) a.1.1.1.1.0))
+pub child-within-says : Tells 1 child-within-kinds.ps child-within-kinds.r child-within-reads.Post (λ κs a r s. r ≡ (lowest_by a.0.now a.1.0 (a.1.1.1.0 - a.1.1.0) (a.1.1.0 + 1) a.1.1.1.1.0))
 child-within-says κs a r s p = p

@@ -9,14 +9,12 @@
 --     onward_from     one step: that stand, or none where the keys part
 --     glided_from     the stand where the steps end, and how many there are
 -- Assumes nothing.
-use Rattle.std.specs.Prelude.{ℕ, zero, suc, ◌+◌, ◌-◌, Bool, not, cond, ◌&&◌, List, length, eqb}
+use Rattle.std.specs.Prelude.{ℕ, zero, suc, ◌+◌, ◌-◌, Bool, not, cond, ◌&&◌, List, length, eqb, None, Option, Some}
 use Rattle.keymap.specs.Key.{Key}
 use Rattle.keymap.specs.Map.{Map}
 use Rattle.keymap.specs.Queries.{beginning, common_of_all}
 use Rattle.keymap.specs.Answers.{given}
 use Rattle.walks.specs.declared.stands.Stand.{Stand}
-use Rattle.walks.specs.declared.moves.Reached.{Reached}
-use Rattle.walks.specs.declared.moves.Reached.TheVariants.{To, NoPath}
 use Rattle.walks.specs.declared.glide.Glided.{Glided}
 use Rattle.walks.specs.Rule.{counts, value_of_node}
 use Rattle.walks.specs.Stands.{kids_from, kid_from}
@@ -32,8 +30,8 @@ goes_through ls vs b len s =
 unfoldable pub only_kid : (ℕ → ℕ) → ℕ → Stand → Stand
 only_kid b len s = kid_from b len s.node (kids_from b len s).next (kids_from b len s).first
 
-unfoldable pub onward_from : List ℕ → List ℕ → (ℕ → ℕ) → ℕ → Stand → Reached
-onward_from ls vs b len s = cond (goes_through ls vs b len s) (To (only_kid b len s)) NoPath
+unfoldable pub onward_from : List ℕ → List ℕ → (ℕ → ℕ) → ℕ → Stand → (Option Stand)
+onward_from ls vs b len s = cond (goes_through ls vs b len s) (Some (only_kid b len s)) None
 
 -- after some steps, with at most `left` more
 unfoldable pub glides : List ℕ → List ℕ → (ℕ → ℕ) → ℕ → ℕ → Stand → ℕ → Glided

@@ -9,14 +9,13 @@
 --     value_of_node  the value of a node
 --     node_by        the node at the end of a query, in the first 2n+3 bits of an image, and `found_by`: its value
 -- Assumes nothing.
-use Rattle.std.specs.Prelude.{ℕ, zero, suc, ◌+◌, ◌-◌, ◌*◌, Bool, cond, ◌&&◌, List, [], ◌∷◌, length, get_or, eqb, ltb, leb}
-use Rattle.std.proofs.Math.Option.{Option, none, some}
+use Rattle.std.specs.Prelude.{ℕ, zero, suc, ◌+◌, ◌-◌, ◌*◌, Bool, cond, ◌&&◌, List, [], ◌∷◌, length, get_or, eqb, ltb, leb, Option, None, Some}
 use Rattle.keymap.specs.Key.{Key}
 use Rattle.keymap.specs.Label.{mark, label_in}
 use Rattle.keymap.specs.Bits.{bit}
 use Rattle.keymap.specs.Image.{Image, bits_for}
 use Rattle.louds.specs.declared.answers.Children.{Children}
-use Rattle.louds.specs.declared.answers.Children.TheVariants.{Run, NoNode}
+use Rattle.louds.specs.Nodes.{Run}
 use Rattle.louds.specs.Nodes.{children_of}
 use Rattle.image.specs.Accept.{entries}
 
@@ -42,11 +41,11 @@ is_child_by ls k m a = leb 2 m && (counts (length ls) k m && matches (get_or ls 
 
 -- "among equal labels the lowest number is taken": among the `left` numbers from m on
 unfoldable pub lowest_by : List ℕ → ℕ → ℕ → ℕ → ℕ → Option ℕ
-lowest_by ls k zero m a = none
-lowest_by ls k (suc left) m a = cond (is_child_by ls k m a) (some m) (lowest_by ls k left (m + 1) a)
+lowest_by ls k zero m a = None
+lowest_by ls k (suc left) m a = cond (is_child_by ls k m a) (Some m) (lowest_by ls k left (m + 1) a)
 
-abbrev pub child_among : List ℕ → ℕ → Children → ℕ → Option ℕ
-child_among ls k NoNode a = none
+abbrev pub child_among : List ℕ → ℕ → Option Children → ℕ → Option ℕ
+child_among ls k None a = None
 child_among ls k (Run first count) a = lowest_by ls k count first a
 
 -- "children of k are the ones after the k-th zero up to the next zero or the end, none if that zero is missing"
@@ -55,27 +54,27 @@ child_by ls b len k a = child_among ls k (children_of b len k) a
 
 -- from the node where a walk is, if it is anywhere
 abbrev pub step_by : List ℕ → (ℕ → ℕ) → ℕ → ℕ → Option ℕ → Option ℕ
-step_by ls b len a none = none
-step_by ls b len a (some k) = child_by ls b len k a
+step_by ls b len a None = None
+step_by ls b len a (Some k) = child_by ls b len k a
 
 unfoldable pub walked_from : List ℕ → (ℕ → ℕ) → ℕ → Key → Option ℕ → Option ℕ
 walked_from ls b len [] at = at
 walked_from ls b len (a ∷ q) at = walked_from ls b len q (step_by ls b len a at)
 
 abbrev pub walked : List ℕ → (ℕ → ℕ) → ℕ → Key → Option ℕ
-walked ls b len q = walked_from ls b len q (some 1)
+walked ls b len q = walked_from ls b len q (Some 1)
 
 -- "an entry from 256 to 511 has a value"
 abbrev pub value_by : ℕ → ℕ → Option ℕ
-value_by e v = cond (leb mark e && ltb e (2 * mark)) (some v) none
+value_by e v = cond (leb mark e && ltb e (2 * mark)) (Some v) None
 
 unfoldable pub value_of_node : List ℕ → List ℕ → ℕ → Option ℕ
 value_of_node ls vs m =
-    cond (leb 2 m && ltb (m - 2) (length vs)) (value_by (get_or ls (m - 2) 0) (get_or vs (m - 2) 0)) none
+    cond (leb 2 m && ltb (m - 2) (length vs)) (value_by (get_or ls (m - 2) 0) (get_or vs (m - 2) 0)) None
 
 abbrev pub value_at_end : List ℕ → List ℕ → Option ℕ → Option ℕ
-value_at_end ls vs none = none
-value_at_end ls vs (some m) = value_of_node ls vs m
+value_at_end ls vs None = None
+value_at_end ls vs (Some m) = value_of_node ls vs m
 
 -- "It reads the first 2n+3 bits by this rule"
 abbrev pub node_by : Image → Key → Option ℕ

@@ -10,23 +10,15 @@
 --     down_from      one step down, and `down_along`: all steps of a query
 --     reached_at     the stand at the node where a walk ended
 -- Assumes nothing.
-use Rattle.std.specs.Prelude.{ℕ, ◌+◌, ◌-◌, Bool, cond, ◌&&◌, List, [], ◌∷◌, ltb, leb}
-use Rattle.std.proofs.Math.Option.{Option, none, some}
+use Rattle.std.specs.Prelude.{ℕ, ◌+◌, ◌-◌, Bool, cond, ◌&&◌, List, [], ◌∷◌, ltb, leb, Option, None, Some, unwrap_or}
 use Rattle.keymap.specs.Key.{Key}
 use Rattle.louds.specs.Select.{zero_at, zero_from}
-use Rattle.louds.specs.Nodes.{or_end}
 use Rattle.walks.specs.declared.stands.Stand.{Stand}
 use Rattle.walks.specs.declared.answers.Kids.{Kids}
-use Rattle.walks.specs.declared.entries.Child.{Child}
-use Rattle.walks.specs.declared.entries.Child.TheVariants.{Node, Absent}
-use Rattle.walks.specs.declared.moves.Reached.{Reached}
-use Rattle.walks.specs.declared.moves.Reached.TheVariants.{To, NoPath}
-use Rattle.walks.specs.declared.entries.Held.{Held}
-use Rattle.walks.specs.declared.entries.Held.TheVariants.{Value, NoValue}
 use Rattle.walks.specs.Rule.{lowest_by}
 
 abbrev pub stand_at : (ℕ → ℕ) → ℕ → ℕ → Stand
-stand_at b len k = record { node = k; zero = or_end len (zero_at b len k) }
+stand_at b len k = record { node = k; zero = unwrap_or (zero_at b len k) len }
 
 -- k zeros can stand up to the place p and with it
 unfoldable pub is_stand : ℕ → ℕ → ℕ → Bool
@@ -34,7 +26,7 @@ is_stand len k p = ltb p len && (leb 1 k && leb k (p + 1))
 
 -- the first zero behind a place, or the end
 abbrev pub next_zero : (ℕ → ℕ) → ℕ → ℕ → ℕ
-next_zero b len p = or_end len (zero_from b len (p + 1) 1)
+next_zero b len p = unwrap_or (zero_from b len (p + 1) 1) len
 
 unfoldable pub kids_from : (ℕ → ℕ) → ℕ → Stand → Kids
 kids_from b len s =
@@ -47,34 +39,34 @@ kids_from b len s =
     (record { first = 0; count = 0; next = len })
 
 unfoldable pub kid_from : (ℕ → ℕ) → ℕ → ℕ → ℕ → ℕ → Stand
-kid_from b len k next m = record { node = m; zero = or_end len (zero_from b len next (m - k)) }
+kid_from b len k next m = record { node = m; zero = unwrap_or (zero_from b len next (m - k)) len }
 
-abbrev pub child_of : Option ℕ → Child
-child_of none = Absent
-child_of (some m) = Node m
+abbrev pub child_of : Option ℕ → (Option ℕ)
+None = None
+(Some m) = Some m
 
-abbrev pub held_of : Option ℕ → Held
-held_of none = NoValue
-held_of (some v) = Value v
+abbrev pub held_of : Option ℕ → (Option ℕ)
+None = None
+(Some v) = Some v
 
-abbrev pub to_kid : (ℕ → ℕ) → ℕ → ℕ → ℕ → Option ℕ → Reached
-to_kid b len k next none = NoPath
-to_kid b len k next (some m) = To (kid_from b len k next m)
+abbrev pub to_kid : (ℕ → ℕ) → ℕ → ℕ → ℕ → Option ℕ → (Option Stand)
+to_kid b len k next None = None
+to_kid b len k next (Some m) = Some (kid_from b len k next m)
 
-unfoldable pub down_from : List ℕ → (ℕ → ℕ) → ℕ → Stand → ℕ → Reached
+unfoldable pub down_from : List ℕ → (ℕ → ℕ) → ℕ → Stand → ℕ → (Option Stand)
 down_from ls b len s a =
     to_kid b len s.node (kids_from b len s).next
     (lowest_by ls s.node (kids_from b len s).count (kids_from b len s).first a)
 
 -- from the stand where a walk is, if it is anywhere
-abbrev pub then_down : List ℕ → (ℕ → ℕ) → ℕ → ℕ → Reached → Reached
-then_down ls b len a NoPath = NoPath
-then_down ls b len a (To s) = down_from ls b len s a
+abbrev pub then_down : List ℕ → (ℕ → ℕ) → ℕ → ℕ → (Option Stand) → (Option Stand)
+then_down ls b len a None = None
+then_down ls b len a (Some s) = down_from ls b len s a
 
-unfoldable pub down_along : List ℕ → (ℕ → ℕ) → ℕ → Key → Reached → Reached
+unfoldable pub down_along : List ℕ → (ℕ → ℕ) → ℕ → Key → (Option Stand) → (Option Stand)
 down_along ls b len [] at = at
 down_along ls b len (a ∷ q) at = down_along ls b len q (then_down ls b len a at)
 
-abbrev pub reached_at : (ℕ → ℕ) → ℕ → Option ℕ → Reached
-reached_at b len none = NoPath
-reached_at b len (some k) = To (stand_at b len k)
+abbrev pub reached_at : (ℕ → ℕ) → ℕ → Option ℕ → (Option Stand)
+reached_at b len None = None
+reached_at b len (Some k) = Some (stand_at b len k)

@@ -1,23 +1,8 @@
 // What the entries of nodes say. Node m of 2 or more has entry m-2.
 ghost use Rattle.std.specs.Prelude.{◌≡◌, length};
 ghost use Rattle.walks.specs.Rule.{is_node_of, counts_to, matches, value_of_node};
-ghost use Rattle.walks.specs.Stands.{held_of};
 
 use image::MARK;
-
-// Which child has a label.
-#[derive(Clone, Copy)]
-pub enum Child {
-    Node(usize),
-    Absent,
-}
-
-// What a node holds.
-#[derive(Clone, Copy)]
-pub enum Held {
-    Value(u32),
-    NoValue,
-}
 
 // Whether a number is a node's: 1 to n+1.
 pub fn is_node(labels: &[u16], node: u32) -> bool
@@ -50,25 +35,25 @@ pub fn entry_matches(entry: u16, label: u8) -> bool
 }
 
 // The value of a node. The root has none, nor has a node with an entry of 512 or more.
-pub fn value_at(labels: &[u16], values: &[u32], node: usize) -> Held
-    ensures { result ≡ held_of (value_of_node labels.now values.now node) }
+pub fn value_at(labels: &[u16], values: &[u32], node: usize) -> Option<u32>
+    ensures { result ≡ (value_of_node labels.now values.now node) }
 {
     if node < 2 {
-        return Held::NoValue;
+        return None;
     }
     let at = node - 2;
     if values.len() <= at {
-        return Held::NoValue;
+        return None;
     }
     if labels.len() <= at {
-        return Held::NoValue;
+        return None;
     }
     let marked = labels[at];
     if marked < MARK {
-        return Held::NoValue;
+        return None;
     }
     if 2 * MARK <= marked {
-        return Held::NoValue;
+        return None;
     }
-    Held::Value(values[at])
+    Some(values[at])
 }

@@ -3,8 +3,7 @@ ghost use Rattle.std.specs.Prelude.{◌≡◌};
 ghost use Rattle.keymap.specs.Bits.{bit};
 ghost use Rattle.walks.specs.Glide.{onward_from, glided_from};
 
-use crate::entries::{Held, counts_to, value_at};
-use crate::moves::Reached;
+use crate::entries::{counts_to, value_at};
 use crate::stands::{Stand, kid_at, kids};
 
 // Where a glide ended, and how many labels it passed.
@@ -15,21 +14,21 @@ pub struct Glided {
 }
 
 // The only child of a node without value, if it counts. Then its number is higher, so that a glide ends on any bits.
-fn onward(labels: &[u16], values: &[u32], words: &[u64], len: usize, s: Stand) -> Reached
+fn onward(labels: &[u16], values: &[u32], words: &[u64], len: usize, s: Stand) -> Option<Stand>
     ensures { result
         ≡ onward_from labels.now values.now (bit words.now) len s }
 {
-    let Held::NoValue = value_at(labels, values, s.node) else {
-        return Reached::NoPath;
+    let None = value_at(labels, values, s.node) else {
+        return None;
     };
     let k = kids(words, len, s);
     if k.count != 1 {
-        return Reached::NoPath;
+        return None;
     }
     if !counts_to(labels.len() + 1, s.node, k.first) {
-        return Reached::NoPath;
+        return None;
     }
-    Reached::To(kid_at(words, len, s.node, k.next, k.first))
+    Some(kid_at(words, len, s.node, k.next, k.first))
 }
 
 // From a stand down to where the keys below it part.
@@ -40,7 +39,7 @@ pub fn glide(labels: &[u16], values: &[u32], words: &[u64], len: usize, s: Stand
     let mut stand = s;
     let mut steps: usize = 0;
     loop {
-        let Reached::To(t) = onward(labels, values, words, len, stand) else {
+        let Some(t) = onward(labels, values, words, len, stand) else {
             return Glided { stand, steps };
         };
         stand = t;

@@ -3,28 +3,21 @@ ghost use Rattle.std.specs.Prelude.{◌≡◌};
 ghost use Rattle.keymap.specs.Bits.{bit};
 ghost use Rattle.walks.specs.Stands.{down_from};
 
-use crate::entries::Child;
 use crate::siblings::child_within;
 use crate::stands::{Stand, kid_at, kids};
 
-#[derive(Clone, Copy)]
-pub enum Reached {
-    To(Stand),
-    NoPath,
-}
-
 // One step down: the child with a label.
-pub fn down(labels: &[u16], words: &[u64], len: usize, s: Stand, label: u8) -> Reached
+pub fn down(labels: &[u16], words: &[u64], len: usize, s: Stand, label: u8) -> Option<Stand>
     ensures { result ≡ down_from labels.now (bit words.now) len s label }
 {
     let k = kids(words, len, s);
     if k.first == 0 {
-        return Reached::NoPath;
+        return None;
     }
     // so many ones stand before the first of them
     let before = k.first - 1;
     match child_within(labels, s.node, before, before + k.count, label) {
-        Child::Node(m) => Reached::To(kid_at(words, len, s.node, k.next, m)),
-        Child::Absent => Reached::NoPath,
+        Some(m) => Some(kid_at(words, len, s.node, k.next, m)),
+        None => None,
     }
 }

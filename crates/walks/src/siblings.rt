@@ -2,9 +2,8 @@
 // labels need not rise.
 ghost use Rattle.std.specs.Prelude.{◌≡◌, ◌+◌, ◌-◌, min, max};
 ghost use Rattle.walks.specs.Rule.{lowest_by};
-ghost use Rattle.walks.specs.Stands.{child_of};
 
-use crate::entries::{Child, entry_matches};
+use crate::entries::entry_matches;
 
 pub fn smaller(a: usize, b: usize) -> usize
     ensures { result ≡ min a b }
@@ -19,23 +18,23 @@ pub fn larger(a: usize, b: usize) -> usize
 }
 
 // The lowest child of a node with a label, of those that have from `from` to `to` - 1 ones before them.
-fn child_among(labels: &[u16], node: usize, from: usize, to: usize, label: u8) -> Child
-    ensures { result ≡ child_of (lowest_by labels.now node (to - from) (from + 1) label) }
+fn child_among(labels: &[u16], node: usize, from: usize, to: usize, label: u8) -> Option<usize>
+    ensures { result ≡ (lowest_by labels.now node (to - from) (from + 1) label) }
 {
     let high = smaller(to, labels.len() + 1);
     let mut at = larger(larger(from, node), 1);
     while at < high {
         if entry_matches(labels[at - 1], label) {
-            return Child::Node(at + 1);
+            return Some(at + 1);
         }
         at += 1;
     }
-    Child::Absent
+    None
 }
 
 // The same, with a look at the first of them before any others: it is mostly the one.
-pub fn child_within(labels: &[u16], node: usize, from: usize, to: usize, label: u8) -> Child
-    ensures { result ≡ child_of (lowest_by labels.now node (to - from) (from + 1) label) }
+pub fn child_within(labels: &[u16], node: usize, from: usize, to: usize, label: u8) -> Option<usize>
+    ensures { result ≡ (lowest_by labels.now node (to - from) (from + 1) label) }
 {
     if node == 0 {
         return child_among(labels, node, from, to, label);
@@ -43,10 +42,10 @@ pub fn child_within(labels: &[u16], node: usize, from: usize, to: usize, label: 
     let end = smaller(to, labels.len() + 1);
     let low = larger(from, node);
     if end <= low {
-        return Child::Absent;
+        return None;
     }
     if entry_matches(labels[low - 1], label) {
-        return Child::Node(low + 1);
+        return Some(low + 1);
     }
     child_among(labels, node, low + 1, end, label)
 }

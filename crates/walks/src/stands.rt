@@ -7,7 +7,7 @@ ghost use Rattle.louds.specs.Nodes.{or_end};
 ghost use Rattle.walks.specs.Stands.{stand_at, is_stand, kids_from, kid_from};
 
 use crate::answers::Kids;
-use louds::{Spot, zero_at, zero_from};
+use louds::{zero_at, zero_from};
 
 // A node with the place of its zero.
 #[derive(Clone, Copy)]
@@ -18,12 +18,12 @@ pub struct Stand {
 }
 
 // Where a bit stands that was asked for, or the end of the bits among which it was.
-pub fn or_end(spot: Spot, len: usize) -> usize
+pub fn or_end(spot: Option<usize>, len: usize) -> usize
     ensures { result ≡ or_end len spot }
 {
     match spot {
-        Spot::At(p) => p,
-        Spot::Missing => len,
+        Some(p) => p,
+        None => len,
     }
 }
 

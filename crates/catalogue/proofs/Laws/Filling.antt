@@ -15,7 +15,7 @@ use Prim.Native.Nat.{ℕ, suc, ◌≤◌, ◌<◌}
 use native.Mathlib.Omega.{arith}
 use mathlib.Core.Bool.{Bool, true, false}
 use mathlib.Core.List.{List, [], ◌∷◌, ◌++◌}
-use mathlib.Core.Option.{Option, none, some}
+use Rattle.std.specs.Prelude.{Option, None, Some}
 use lib.ListN.{length, get_or, take}
 use lib.Dec.{eqb}
 use borrow.Author.Tests.{eq-eqb, ne_eqb, eqb-false}
@@ -53,27 +53,27 @@ pushed-said Pushed.NotAPool = refl
 pushed-said Pushed.EmptyKey = refl
 pushed-said Pushed.NoRoom = refl
 
-pub entry-said : (line : List ℕ) (n v : ℕ) → tab_line_says line ≡ 0 ∷ n ∷ v ∷ [] → tab_entry line ≡ some (tab_line_key line, v)
+pub entry-said : (line : List ℕ) (n v : ℕ) → tab_line_says line ≡ 0 ∷ n ∷ v ∷ [] → tab_entry line ≡ Some (tab_line_key line, v)
 unfolding tab_line_says tab_line_key
 entry-said line n v = go (tab_entry line)
   where
-    go : (o : Option Entry) → entry_says o ≡ 0 ∷ n ∷ v ∷ [] → o ≡ some (entry_key o, v)
-    go none h = absurd (let z : ◌≡◌ {A = ℕ} 0 1 = cc in omega arith)
-    go (some e) h = let same : e.1 ≡ v = cc in λ i. some (e.0, same i)
+    go : (o : Option Entry) → entry_says o ≡ 0 ∷ n ∷ v ∷ [] → o ≡ Some (entry_key o, v)
+    go None h = absurd (let z : ◌≡◌ {A = ℕ} 0 1 = cc in omega arith)
+    go (Some e) h = let same : e.1 ≡ v = cc in λ i. Some (e.0, same i)
 
-pub entry-none : (line : List ℕ) → tab_line_says line ≡ refuses Refusal.BadLine → tab_entry line ≡ none
+pub entry-none : (line : List ℕ) → tab_line_says line ≡ refuses Refusal.BadLine → tab_entry line ≡ None
 unfolding tab_line_says
 entry-none line = go (tab_entry line)
   where
-    go : (o : Option Entry) → entry_says o ≡ refuses Refusal.BadLine → o ≡ none
-    go none h = refl
-    go (some e) h = absurd (let z : ◌≡◌ {A = ℕ} 0 1 = cc in omega arith)
+    go : (o : Option Entry) → entry_says o ≡ refuses Refusal.BadLine → o ≡ None
+    go None h = refl
+    go (Some e) h = absurd (let z : ◌≡◌ {A = ℕ} 0 1 = cc in omega arith)
 
 -- a refused line leaves the pool as it was
 pub line_refused : (p : Pool) (o : Option Entry) → accepted (line_says p o) ≡ false → line_pool p o ≡ p
 unfolding push_pool
-line_refused p none h = refl
-line_refused p (some e) h = rw h
+line_refused p None h = refl
+line_refused p (Some e) h = rw h
 
 -- ---- lines in turn
 
@@ -119,7 +119,7 @@ pub lines-bytes : (text : List ℕ) → Bytes text → AllBytes (entry_lines tex
 unfolding entry_lines
 lines-bytes text h = lines_of-bytes text h
 
-pub key-bytes : (l : List ℕ) (e : Entry) → tab_entry l ≡ some e → Bytes l → Bytes e.0
+pub key-bytes : (l : List ℕ) (e : Entry) → tab_entry l ≡ Some e → Bytes l → Bytes e.0
 unfolding key_part
 key-bytes l e h b = rw (tab_entry-some l e h).key (bytes-prefix (take (stretch tab l) l) l (prefix-leading (stretch tab l) l) b)
 
@@ -139,7 +139,7 @@ unfolding fill_from left_from entries_in insert_all
 fill-means [] n p s b h = record { sound = s; holds = refl }
 fill-means (l ∷ ls) n p s b h = go (tab_entry l) refl (λ q t. fill-means ls (suc n) q t b.1)
   where
-    inserted : (e : Entry) → tab_entry l ≡ some e → accepted (push_says p e.0) ≡ true → Filled (push_pool p e.0 e.1) ls → Filled p (l ∷ ls)
+    inserted : (e : Entry) → tab_entry l ≡ Some e → accepted (push_says p e.0) ≡ true → Filled (push_pool p e.0 e.1) ls → Filled p (l ∷ ls)
     inserted e f a r =
         let kb : Bytes e.0 = key-bytes l e f b.0 in
         record {
@@ -147,14 +147,14 @@ fill-means (l ∷ ls) n p s b h = go (tab_entry l) refl (λ q t. fill-means ls (
           holds = rw (f, a) (r.holds ∙ ap (insert_all (entries_in ls)) (push-means-insert p e.0 e.1 kb a));
         }
 
-    pushed : (e : Entry) → tab_entry l ≡ some e → ((q : Pool) → Sound q → fill_from (suc (suc n)) q ls ≡ 0 ∷ [] → Filled q ls)
+    pushed : (e : Entry) → tab_entry l ≡ Some e → ((q : Pool) → Sound q → fill_from (suc (suc n)) q ls ≡ 0 ∷ [] → Filled q ls)
         → (t : Bool) → accepted (push_says p e.0) ≡ t → Filled p (l ∷ ls)
     pushed e f ih true a = inserted e f a (ih (push_pool p e.0 e.1) (push-keeps p e.0 e.1 (key-bytes l e f b.0) s) (rw (f, a) at h))
     pushed e f ih false a = absurd (told (push_says p e.0) n a (rw (f, a) at h))
 
     go : (o : Option Entry) → tab_entry l ≡ o → ((q : Pool) → Sound q → fill_from (suc (suc n)) q ls ≡ 0 ∷ [] → Filled q ls) → Filled p (l ∷ ls)
-    go none f ih = absurd (let k : 9 ∷ suc n ∷ [] ≡ 0 ∷ [] = rw f at h in let z : ◌≡◌ {A = ℕ} 9 0 = cc in omega arith)
-    go (some e) f ih = pushed e f ih (accepted (push_says p e.0)) refl
+    go None f ih = absurd (let k : 9 ∷ suc n ∷ [] ≡ 0 ∷ [] = rw f at h in let z : ◌≡◌ {A = ℕ} 9 0 = cc in omega arith)
+    go (Some e) f ih = pushed e f ih (accepted (push_says p e.0)) refl
 
 -- a text accepted whole after a reset
 pub filled-holds : (p : Pool) → record_words ≤ length p → (text : List ℕ) → Bytes text → (r : answers.Filled) → said_filled r ≡ fill_from 1 (reset_pool p) (entry_lines text)

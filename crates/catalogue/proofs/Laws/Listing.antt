@@ -11,13 +11,13 @@ use mathlib.Core.Logic.{inl}
 use Prim.Native.Nat.{ℕ, ◌+◌, ◌-◌, ◌≤◌, ◌<◌}
 use native.Mathlib.Omega.{arith}
 use mathlib.Core.Bool.{true, cond}
-use mathlib.Core.List.{List, [], ◌∷◌, ◌++◌, head?, append_assoc, append-nil}
-use mathlib.Core.Option.{Option, none, some}
+use mathlib.Core.List.{List, [], ◌∷◌, ◌++◌, append_assoc, append-nil}
+use Rattle.std.specs.Prelude.{Option, None, Some}
 use lib.ListN.{length, take, drop, length-append, length-drop, drop_of_length-le}
 use lib.Seq.{take_all}
 use lib.Dec.{leb}
 use borrow.Author.Tests.{le-leb}
-use Rattle.keymap.specs.Members.{In}
+use Rattle.keymap.specs.Members.{In, head_of}
 use Rattle.keymap.specs.Key.{Key, begins_with}
 use Rattle.keymap.specs.Map.{Entry, Map, Rising}
 use Rattle.keymap.specs.Queries.{nonempty, beginning}
@@ -114,27 +114,27 @@ end_of (Open kind top last) = Finished kind
 end_of (Finished kind) = Finished kind
 
 abbrev stepped_to : Map → Cursor → Option Entry → Stepped
-stepped_to m c none = stepped.End (end_of c)
-stepped_to m c (some e) = stepped.Gave (node_of m e.0) e.1 (cursor_after m c e)
+stepped_to m c None = stepped.End (end_of c)
+stepped_to m c (Some e) = stepped.Gave (node_of m e.0) e.1 (cursor_after m c e)
 
 step_in_lem : (m : Map) (c : Cursor) → step_in m c ≡ said_stepped (stepped_to m c (next_entry m c))
 step_in_lem m (Open kind top last) = go (next_in m (set_of m kind (path_of m top)) last)
   where
     go : (o : Option Entry) → says_step m kind top o ≡ said_stepped (stepped_to m (Open kind top last) o)
-    go none = refl
-    go (some e) = refl
+    go None = refl
+    go (Some e) = refl
 step_in_lem m (Finished kind) = refl
 
-stands-step : (i : Image) → MapImage i → (c : Cursor) (rest : Map) → Stands i c rest → (r : Stepped) → said_stepped r ≡ step_says i c → r ≡ stepped_to (image_map i) c (head? rest)
+stands-step : (i : Image) → MapImage i → (c : Cursor) (rest : Map) → Stands i c rest → (r : Stepped) → said_stepped r ≡ step_says i c → r ≡ stepped_to (image_map i) c (head_of rest)
 unfolding step_says
 stands-step i image c rest s r h =
     let m : Map = image_map i in
-    let next : next_entry m c ≡ head? rest = next-head m c ∙ ap head? s.rest-is in
-    said_stepped-one r (stepped_to m c (head? rest))
+    let next : next_entry m c ≡ head_of rest = next-head m c ∙ ap head_of s.rest-is in
+    said_stepped-one r (stepped_to m c (head_of rest))
     (h ∙ rw (map_image-tested i image, s.belonging) (step_in_lem m c) ∙ ap (λ (o : Option Entry). said_stepped (stepped_to m c o)) next)
 
 -- the key of a cursor, in a buffer that holds it
-key-put : (i : Image) → MapImage i → (c : Cursor) → belongs (image_map i) c ≡ true → (k : Key) → key_of (image_map i) c ≡ some k → (out : List ℕ) → length k ≤ length out
+key-put : (i : Image) → MapImage i → (c : Cursor) → belongs (image_map i) c ≡ true → (k : Key) → key_of (image_map i) c ≡ Some k → (out : List ℕ) → length k ≤ length out
     → (key_says i c out ≡ 0 ∷ length k ∷ []) × (key_out i c out ≡ over k out)
 unfolding key_says key_out over
 key-put i image c b k is out fits =
@@ -186,20 +186,20 @@ module _ (i : Image) (image : MapImage i) (out₀ : List ℕ) where
     unfolding map_text
     listing-ends r h none-given = go l.rest refl
       where
-        is : r ≡ stepped_to m c (head? l.rest)
+        is : r ≡ stepped_to m c (head_of l.rest)
         is = stands-step i image c l.rest l.stands r h
 
         go : (n : Map) → l.rest ≡ n → Put (map_text m) out₀ at out
         go [] e =
             let all : l.s ≡ map_text m = sym (append-nil l.s) ∙ ap (λ (n : Map). l.s ++ map_text n) (sym e) ∙ l.whole in
             subst (λ (t : List ℕ). Put t out₀ at out) all l.put
-        go (e ∷ n) q = absurd (none-given _ _ _ (is ∙ ap (λ (x : Map). stepped_to m c (head? x)) q))
+        go (e ∷ n) q = absurd (none-given _ _ _ (is ∙ ap (λ (x : Map). stepped_to m c (head_of x)) q))
 
     pub listing-turn : length (map_text m) ≤ length out₀ → (n v : ℕ) (next : Cursor) → said_stepped (stepped.Gave n v next) ≡ step_says i c → Turn i out₀ c at out v next
     unfolding map_text
     listing-turn fits n v next h = go l.rest refl
       where
-        is : stepped.Gave n v next ≡ stepped_to m c (head? l.rest)
+        is : stepped.Gave n v next ≡ stepped_to m c (head_of l.rest)
         is = stands-step i image c l.rest l.stands (stepped.Gave n v next) h
 
         turn : (e : Entry) (rest : Map) → l.rest ≡ e ∷ rest → v ≡ e.1 → (d : Cursor) → cursor_after m c e ≡ d → Turn i out₀ c at out v d
@@ -208,9 +208,9 @@ module _ (i : Image) (image : MapImage i) (out₀ : List ℕ) where
             let r : Rising m = image.catalogue.rising in
             let st = l.stands in
             let (pe, po) = l.put in
-            let given : next_entry m c ≡ some e = next-head m c ∙ ap head? (st.rest-is ∙ q) in
+            let given : next_entry m c ≡ Some e = next-head m c ∙ ap head_of (st.rest-is ∙ q) in
             let belonging : belongs m d ≡ true = ap (belongs m) (sym to) ∙ next-belongs m r c e st.belonging given in
-            let key-of : key_of m d ≡ some e.0 = ap (key_of m) (sym to) ∙ next-key m r c e st.predictive given in
+            let key-of : key_of m d ≡ Some e.0 = ap (key_of m) (sym to) ∙ next-key m r c e st.predictive given in
             let rests : e ∷ rest_of m (cursor_after m c e) ≡ e ∷ rest = sym (rest-step m r c e given) ∙ st.rest-is ∙ q in
             let behind : rest_of m (cursor_after m c e) ≡ rest = cc in
             let at_rest : rest_of m d ≡ rest = ap (rest_of m) (sym to) ∙ behind in
@@ -252,10 +252,10 @@ module _ (i : Image) (image : MapImage i) (out₀ : List ℕ) where
 
         go : (rest : Map) → l.rest ≡ rest → Turn i out₀ c at out v next
         go [] q =
-            let none-given : stepped.Gave n v next ≡ stepped.End (end_of c) = is ∙ ap (λ (x : Map). stepped_to m c (head? x)) q in
+            let none-given : stepped.Gave n v next ≡ stepped.End (end_of c) = is ∙ ap (λ (x : Map). stepped_to m c (head_of x)) q in
             let z : ◌≡◌ {A = ℕ} 0 1 = cc in absurd (omega arith)
         go (e ∷ rest) q =
-            let gave : stepped.Gave n v next ≡ stepped.Gave (node_of m e.0) e.1 (cursor_after m c e) = is ∙ ap (λ (x : Map). stepped_to m c (head? x)) q in
+            let gave : stepped.Gave n v next ≡ stepped.Gave (node_of m e.0) e.1 (cursor_after m c e) = is ∙ ap (λ (x : Map). stepped_to m c (head_of x)) q in
             let value : v ≡ e.1 = cc in
             let to-next : cursor_after m c e ≡ next = cc in
             turn e rest q value next to-next

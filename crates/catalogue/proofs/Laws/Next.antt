@@ -11,9 +11,9 @@ use mathlib.Core.Path.{◌≡◌, refl, sym, ap, subst, ◌∙◌}
 use Prim.Native.Nat.{ℕ, zero, suc}
 use native.Mathlib.Omega.{arith}
 use mathlib.Core.Bool.{Bool, true, false}
-use mathlib.Core.List.{[], ◌∷◌, head?}
-use mathlib.Core.Option.{Option, none, some}
-use Rattle.keymap.specs.Members.{In, here}
+use mathlib.Core.List.{[], ◌∷◌}
+use Rattle.std.specs.Prelude.{Option, None, Some}
+use Rattle.keymap.specs.Members.{In, here, head_of}
 use Rattle.keymap.specs.Key.{Key, Below, is_below}
 use Rattle.keymap.specs.Map.{Entry, Map, Before, Rising}
 use Rattle.keymap.specs.Queries.{keep, least_above}
@@ -35,7 +35,7 @@ use Rattle.listings.proofs.Laws.GivenKey.{given_key-predictive}
 -- the entry that a cursor gives next
 abbrev pub next_entry : Map → Cursor → Option Entry
 next_entry m (Open kind top last) = next_in m (set_of m kind (path_of m top)) last
-next_entry m (Finished kind) = none
+next_entry m (Finished kind) = None
 
 -- and the cursor behind it
 abbrev pub cursor_after : Map → Cursor → Entry → Cursor
@@ -59,29 +59,29 @@ rest_of m (Finished kind) = []
 -- ---- the entry that is given next
 
 -- it is an entry of the cursor's set
-next-in : (m : Map) (set : Map) (last : ℕ) (e : Entry) → next_in m set last ≡ some e → In e set
+next-in : (m : Map) (set : Map) (last : ℕ) (e : Entry) → next_in m set last ≡ Some e → In e set
 unfolding least_above
 next-in m set zero e h = head_in set h
 next-in m set (suc k) e h = ((keep-iff (λ (d : Entry). is_below (path_of m (suc k)) d.0) e set).0 (head_in (keep (λ (d : Entry). is_below (path_of m (suc k)) d.0) set) h)).0
 
 module _ (m : Map) (r : Rising m) where
-  pub next-member : (c : Cursor) (e : Entry) → next_entry m c ≡ some e → In e m
+  pub next-member : (c : Cursor) (e : Entry) → next_entry m c ≡ Some e → In e m
   next-member (Open kind top last) e h = (set_of-in m r kind (path_of m top) e (next-in m (set_of m kind (path_of m top)) last e h)).0
   next-member (Finished kind) e h = let z : ◌≡◌ {A = ℕ} 0 1 = cc in absurd (omega arith)
 
   -- the cursor behind it belongs, and the key that it gives is the entry's
-  pub next-belongs : (c : Cursor) (e : Entry) → belongs m c ≡ true → next_entry m c ≡ some e → belongs m (cursor_after m c e) ≡ true
+  pub next-belongs : (c : Cursor) (e : Entry) → belongs m c ≡ true → next_entry m c ≡ Some e → belongs m (cursor_after m c e) ≡ true
   next-belongs (Open kind top last) e b h =
       let back : node_of m (path_of m top) ≡ top = node_of-path_of m r top (belongs-top m kind top last b) in
       ap (λ (n : ℕ). belongs m (Open kind n (node_of m e.0))) (sym back)
       ∙ belongs-at m r kind (path_of m top) e (next-in m (set_of m kind (path_of m top)) last e h)
   next-belongs (Finished kind) e b h = let z : ◌≡◌ {A = ℕ} 0 1 = cc in absurd (omega arith)
 
-  pub next-key : (c : Cursor) (e : Entry) → kind_of c ≡ kinds.Predictive → next_entry m c ≡ some e → key_of m (cursor_after m c e) ≡ some e.0
+  pub next-key : (c : Cursor) (e : Entry) → kind_of c ≡ kinds.Predictive → next_entry m c ≡ Some e → key_of m (cursor_after m c e) ≡ Some e.0
   unfolding node_of
   next-key (Open kind top last) e k h =
       let i : In e m = next-member (Open kind top last) e h in
-      ap (λ (x : Key). some x) (ap (λ (d : Kind). given_key m d top (node_of m e.0)) k ∙ given_key-predictive m top e i)
+      ap (λ (x : Key). Some x) (ap (λ (d : Kind). given_key m d top (node_of m e.0)) k ∙ given_key-predictive m top e i)
   next-key (Finished kind) e k h = let z : ◌≡◌ {A = ℕ} 0 1 = cc in absurd (omega arith)
 
 -- ---- the rest of a listing
@@ -122,12 +122,12 @@ above-next (d ∷ n) r k e rest h = go (is_below k d.0) refl (above-next n r.1 k
         let member : In e n = ((keep-iff (λ (x : Entry). is_below k x.0) e n).0 (rw g (here refl))).0 in
         rw (not-below e.0 d.0 (below-asym d.0 e.0 (before-all d.0 n r.0 r.1 e member))) (ih g)
 
-head_tail : (n : Map) (e : Entry) → head? n ≡ some e → (rest : Map) × (n ≡ e ∷ rest)
+head_tail : (n : Map) (e : Entry) → head_of n ≡ Some e → (rest : Map) × (n ≡ e ∷ rest)
 head_tail [] e h = let z : ◌≡◌ {A = ℕ} 0 1 = cc in absurd (omega arith)
 head_tail (d ∷ n) e h = let same : d ≡ e = cc in (n, λ i. same i ∷ n)
 
 -- the next entry is the first of the rest
-pub next-head : (m : Map) (c : Cursor) → next_entry m c ≡ head? (rest_of m c)
+pub next-head : (m : Map) (c : Cursor) → next_entry m c ≡ head_of (rest_of m c)
 unfolding least_above
 next-head m (Open kind top zero) = refl
 next-head m (Open kind top (suc k)) = refl
@@ -145,7 +145,7 @@ module _ (m : Map) (r : Rising m) where
       go zero g = ap (above e.0) g ∙ above-first e rest (subst Rising g (set_of-rising m r kind (path_of m top)))
       go (suc k) g = above-next (set_of m kind (path_of m top)) (set_of-rising m r kind (path_of m top)) (path_of m (suc k)) e rest g
 
-  pub rest-step : (c : Cursor) (e : Entry) → next_entry m c ≡ some e → rest_of m c ≡ e ∷ rest_of m (cursor_after m c e)
+  pub rest-step : (c : Cursor) (e : Entry) → next_entry m c ≡ Some e → rest_of m c ≡ e ∷ rest_of m (cursor_after m c e)
   rest-step (Open kind top last) e h =
       let (rest, f) = head_tail (rest_of m (Open kind top last)) e (sym (next-head m (Open kind top last)) ∙ h) in
       f ∙ ap (λ (n : Map). e ∷ n) (sym (rest-next kind top last e rest f (next-member m r (Open kind top last) e h)))

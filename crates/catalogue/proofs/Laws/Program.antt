@@ -11,7 +11,7 @@ use Prim.Native.Nat.{ℕ, suc, ◌+◌, ◌≤◌, ◌<◌, Ordering}
 use native.Mathlib.Omega.{arith}
 use mathlib.Core.Bool.{Bool, true, false, cond}
 use mathlib.Core.List.{List, [], ◌∷◌, ◌++◌}
-use mathlib.Core.Option.{Option, none, some}
+use Rattle.std.specs.Prelude.{Option, None, Some}
 use lib.ListN.{length, take, drop, length-append, length-take}
 use lib.Dec.{eqb}
 use borrow.Author.Tests.{lt-ltb, le-ltb, ne_eqb}
@@ -91,8 +91,8 @@ entries-length (l ∷ ls) m = go (tab_entry l) refl (λ n. entries-length ls n)
   where
     go : (o : Option Entry) → tab_entry l ≡ o → ((n : Map) → length (map_text (insert_all (entries_in ls) n)) ≤ length (map_text n) + line_bytes ls)
         → length (map_text (insert_all (entries_in (l ∷ ls)) m)) ≤ length (map_text m) + (suc (length l) + line_bytes ls)
-    go none f ih = rw f (omega (arith, ih m))
-    go (some e) f ih =
+    go None f ih = rw f (omega (arith, ih m))
+    go (Some e) f ih =
         let text : length (tab_text e) ≡ length l + 1 = ap length (sym (tab_entry-text l e f)) ∙ length-append l (line_feed ∷ []) in
         rw f (omega (arith, ih (insert e.0 e.1 m), insert-length m e.0 e.1, text))
 

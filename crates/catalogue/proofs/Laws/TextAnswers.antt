@@ -17,7 +17,7 @@ use Prim.Native.Nat.{ℕ, suc, ◌+◌, ◌≤◌, ◌<◌}
 use native.Mathlib.Omega.{arith}
 use mathlib.Core.Bool.{Bool, true, false, cond}
 use mathlib.Core.List.{List, [], ◌∷◌, ◌++◌}
-use mathlib.Core.Option.{Option, none, some}
+use Rattle.std.specs.Prelude.{Option, None, Some}
 use lib.ListN.{length}
 use lib.Dec.{leb, ltb}
 use borrow.Author.Tests.{ne_eqb, leb-true, leb-false, lt-leb, ltb-true, ltb-false, lt-ltb, le-ltb}
@@ -50,23 +50,23 @@ use Rattle.catalogue.proofs.Laws.Filling.{AllBytes, key-bytes, lines-bytes}
 
 -- a line is pushed or refused
 data Line (most : ℕ) (m : Map) (l : List ℕ) : Type 0 where
-  goes : (e : Entry) → tab_entry l ≡ some e → ¬ (e.0 ≡ []) → length (prefixes (insert e.0 e.1 m)) ≤ most → Line most m l
+  goes : (e : Entry) → tab_entry l ≡ Some e → ¬ (e.0 ≡ []) → length (prefixes (insert e.0 e.1 m)) ≤ most → Line most m l
   stops : (number : ℕ) → Cause most m l number → Line most m l
 
 line_view : (most : ℕ) (m : Map) (l : List ℕ) → Line most m l
 line_view most m l = go (tab_entry l) refl
   where
-    room : (e : Entry) → tab_entry l ≡ some e → ¬ (e.0 ≡ []) → (t : Bool) → leb (length (prefixes (insert e.0 e.1 m))) most ≡ t → Line most m l
+    room : (e : Entry) → tab_entry l ≡ Some e → ¬ (e.0 ≡ []) → (t : Bool) → leb (length (prefixes (insert e.0 e.1 m))) most ≡ t → Line most m l
     room e f d true h = goes e f d (leb-true _ _ h)
     room e f d false h = stops (refusal_number Refusal.NoRoom) (no_room e f d (leb-false _ _ h) refl)
 
-    keyed : (e : Entry) → tab_entry l ≡ some e → (k : Key) → e.0 ≡ k → Line most m l
+    keyed : (e : Entry) → tab_entry l ≡ Some e → (k : Key) → e.0 ≡ k → Line most m l
     keyed e f [] z = stops (refusal_number Refusal.EmptyKey) (empty_key e f z refl)
     keyed e f (b ∷ k) z = room e f (λ n. let o : b ∷ k ≡ [] = sym z ∙ n in absurd (let q : ◌≡◌ {A = ℕ} 0 1 = cc in omega arith)) (leb (length (prefixes (insert e.0 e.1 m))) most) refl
 
     go : (o : Option Entry) → tab_entry l ≡ o → Line most m l
-    go none f = stops (refusal_number Refusal.BadLine) (bad f refl)
-    go (some e) f = keyed e f e.0 refl
+    go None f = stops (refusal_number Refusal.BadLine) (bad f refl)
+    go (Some e) f = keyed e f e.0 refl
 
 empty-says : (most : ℕ) (m : Map) (v : ℕ) (k : Key) → k ≡ [] → map_says most m (PoolCall.push k v) ≡ refuses Refusal.EmptyKey
 empty-says most m v k z = rw z refl
@@ -77,12 +77,12 @@ full-says most m v [] d many = absurd (d refl)
 full-says most m v (b ∷ k) d many = rw (ne_eqb (length (b ∷ k)) 0 (λ e. omega arith), lt-leb _ _ many)
 
 module _ (most n : ℕ) (m : Map) (l : List ℕ) (ls : List (List ℕ)) where
-  entry-told : (e : Entry) → tab_entry l ≡ some e → (a : List ℕ) → map_says most m (PoolCall.push e.0 e.1) ≡ a
+  entry-told : (e : Entry) → tab_entry l ≡ Some e → (a : List ℕ) → map_says most m (PoolCall.push e.0 e.1) ≡ a
       → text_from most n m (l ∷ ls) ≡ cond (accepted a) (text_from most (suc n) (insert e.0 e.1 m) ls) (a ++ (n ∷ []))
   unfolding text_from
   entry-told e f a says = rw f (ap (λ (s : List ℕ). cond (accepted s) (text_from most (suc n) (insert e.0 e.1 m) ls) (s ++ (n ∷ []))) says)
 
-  pub text-goes : (e : Entry) → tab_entry l ≡ some e → ¬ (e.0 ≡ []) → length (prefixes (insert e.0 e.1 m)) ≤ most
+  pub text-goes : (e : Entry) → tab_entry l ≡ Some e → ¬ (e.0 ≡ []) → length (prefixes (insert e.0 e.1 m)) ≤ most
       → text_from most n m (l ∷ ls) ≡ text_from most (suc n) (insert e.0 e.1 m) ls
   text-goes e f d few = entry-told e f (0 ∷ []) (fits-says most m e.0 e.1 d few)
 
@@ -262,8 +262,8 @@ fill-text (l ∷ ls) n p s b = go (tab_entry l) refl (λ q t. fill-text ls (suc 
   where
     go : (o : Option Entry) → tab_entry l ≡ o → ((q : Pool) → Sound q → fill_from (suc n) q ls ≡ text_from (capacity q) (suc n) (pool_map q) ls)
         → fill_from n p (l ∷ ls) ≡ text_from (capacity p) n (pool_map p) (l ∷ ls)
-    go none f ih = rw f refl
-    go (some e) f ih =
+    go None f ih = rw f refl
+    go (Some e) f ih =
         let kb : Bytes e.0 = key-bytes l e f b.0 in
         let q : Pool = push_pool p e.0 e.1 in
         let room : capacity q ≡ capacity p = rw (length_push p e.0 e.1 kb) in

@@ -10,7 +10,7 @@ use native.Mathlib.Decide.{dec_le, ℕ_discrete}
 use native.Mathlib.Omega.{arith}
 use mathlib.Core.Bool.{Bool, true, false, cond}
 use mathlib.Core.List.{[], ◌∷◌}
-use mathlib.Core.Option.{Option, none, some}
+use Rattle.std.specs.Prelude.{Option, None, Some}
 use lib.ListN.{length}
 use lib.Dec.{eqb, ltb}
 use borrow.Author.Tests.{lt-ltb, le-ltb, eqb-true, eq-eqb}
@@ -34,36 +34,36 @@ use Rattle.climbs.proofs.Laws.MapClimb.{step-up, upper-path}
 
 -- the bound is enough
 abbrev Upto : ℕ → Option ℕ → Type 0
-Upto n none = Unit {0}
-Upto n (some k) = k ≤ n
+Upto n None = Unit {0}
+Upto n (Some k) = k ≤ n
 
 module _ (b : ℕ → ℕ) (len top : ℕ) where
   parent-upto : (k n : ℕ) → k ≤ suc n → (o : Option ℕ) → parent_by b len k ≡ o → Upto n o
-  parent-upto k n l none e = tt
-  parent-upto k n l (some j) e = omega (arith, parent_by-told b len k j e)
+  parent-upto k n l None e = tt
+  parent-upto k n l (Some j) e = omega (arith, parent_by-told b len k j e)
 
   meets-enough : (f g : ℕ) (o : Option ℕ) → Upto f o → Upto g o → meets b len top f o ≡ meets b len top g o
   unfolding meets
   meets-enough zero zero o v w = refl
-  meets-enough zero (suc g) none v w = refl
-  meets-enough zero (suc g) (some k) v w = rw (le-ltb top k (omega (arith, v)))
-  meets-enough (suc f) zero none v w = refl
-  meets-enough (suc f) zero (some k) v w = rw (le-ltb top k (omega (arith, w)))
-  meets-enough (suc f) (suc g) none v w = refl
-  meets-enough (suc f) (suc g) (some k) v w =
+  meets-enough zero (suc g) None v w = refl
+  meets-enough zero (suc g) (Some k) v w = rw (le-ltb top k (omega (arith, v)))
+  meets-enough (suc f) zero None v w = refl
+  meets-enough (suc f) zero (Some k) v w = rw (le-ltb top k (omega (arith, w)))
+  meets-enough (suc f) (suc g) None v w = refl
+  meets-enough (suc f) (suc g) (Some k) v w =
       ap (λ (t : Bool). cond (ltb top k) t (eqb k top))
       (meets-enough f g (parent_by b len k) (parent-upto k f v (parent_by b len k) refl) (parent-upto k g w (parent_by b len k) refl))
 
-  meets-none : (f : ℕ) → meets b len top f none ≡ false
+  meets-none : (f : ℕ) → meets b len top f None ≡ false
   unfolding meets
   meets-none zero = refl
   meets-none (suc f) = refl
 
-  meets-some : (f k : ℕ) → top < k → meets b len top (suc f) (some k) ≡ meets b len top f (parent_by b len k)
+  meets-some : (f k : ℕ) → top < k → meets b len top (suc f) (Some k) ≡ meets b len top f (parent_by b len k)
   unfolding meets
   meets-some f k l = rw (lt-ltb top k l)
 
-  meets-here : (f k : ℕ) → k ≤ top → meets b len top f (some k) ≡ eqb k top
+  meets-here : (f k : ℕ) → k ≤ top → meets b len top f (Some k) ≡ eqb k top
   unfolding meets
   meets-here zero k l = refl
   meets-here (suc f) k l = rw (le-ltb top k l)
@@ -72,18 +72,18 @@ module _ (b : ℕ → ℕ) (len top : ℕ) where
   unfolding below_by
   below_by-here m l = meets-here m m l
 
-  pub below_by-lost : (m : ℕ) → top < m → parent_by b len m ≡ none → below_by b len top m ≡ false
+  pub below_by-lost : (m : ℕ) → top < m → parent_by b len m ≡ None → below_by b len top m ≡ false
   unfolding below_by
   below_by-lost zero l e = absurd (omega arith)
   below_by-lost (suc m) l e = meets-some m (suc m) l ∙ ap (meets b len top m) e ∙ meets-none m
 
-  pub below_by-up : (m k : ℕ) → top < m → parent_by b len m ≡ some k → below_by b len top m ≡ below_by b len top k
+  pub below_by-up : (m k : ℕ) → top < m → parent_by b len m ≡ Some k → below_by b len top m ≡ below_by b len top k
   unfolding below_by
   below_by-up zero k l e = absurd (omega arith)
   below_by-up (suc m) k l e =
       meets-some m (suc m) l
       ∙ ap (meets b len top m) e
-      ∙ meets-enough m k (some k) (omega (arith, parent_by-told b len (suc m) k e)) (omega arith)
+      ∙ meets-enough m k (Some k) (omega (arith, parent_by-told b len (suc m) k e)) (omega arith)
 
 -- ---- paths
 

@@ -13,7 +13,7 @@ use native.Mathlib.Nat.{lt_of_not-le}
 use native.Mathlib.Decide.{dec_le}
 use native.Mathlib.Omega.{arith}
 use mathlib.Core.List.{[], ◌∷◌, ◌++◌}
-use mathlib.Core.Option.{Option, none, some}
+use Rattle.std.specs.Prelude.{Option, None, Some}
 use lib.ListN.{length, length-append}
 use Rattle.keymap.specs.Members.{In}
 use Rattle.keymap.specs.Key.{Key, PrefixOf, last_byte}
@@ -27,7 +27,6 @@ use Rattle.keymap.specs.Decode.{image_map}
 use Rattle.keymap.proofs.Laws.Begins.{prefix-iff, prefix_trans}
 use Rattle.keymap.proofs.Laws.Steps.{upper-last}
 use Rattle.keymap.proofs.Laws.Paths.{path_of-root, path_of-in, path_of-node_of, path_of-longer, node_of-node, node_of-path_of, nodes-iff}
-use Rattle.louds.specs.declared.answers.Up.TheVariants.{Node}
 use Rattle.louds.specs.Nodes.{parent_of}
 use Rattle.louds.proofs.Laws.MapNodes.{map_bits, map_length, parent-node}
 use Rattle.image.specs.Accept.{entries}
@@ -109,14 +108,14 @@ path-short m c k n = path-below k m c k (omega arith) n
 -- ---- climbs by the rule
 
 module _ (i : Image) (h : MapImage i) where
-  pub upper-path : (k : ℕ) → IsNode (image_map i) k → 2 ≤ k → parent_by (bit i.words) (bits_for (entries i)) k ≡ some (node_of (image_map i) (upper (path_of (image_map i) k)))
+  pub upper-path : (k : ℕ) → IsNode (image_map i) k → 2 ≤ k → parent_by (bit i.words) (bits_for (entries i)) k ≡ Some (node_of (image_map i) (upper (path_of (image_map i) k)))
   upper-path k n l =
       let m : Map = image_map i in
       let x : Key = path_of m k in
       let u = upper-node m h.catalogue k n l in
       let e : x ≡ upper x ++ (last_byte x ∷ []) = upper-last x u.longer in
       let own : node_of m (upper x ++ (last_byte x ∷ [])) ≡ k = ap (node_of m) (sym e) ∙ node_of-path_of m h.catalogue.rising k n in
-      let up : parent_of (bit i.words) (bits_for (entries i)) k ≡ Node (node_of m (upper x)) =
+      let up : parent_of (bit i.words) (bits_for (entries i)) k ≡ Some (node_of m (upper x)) =
       rw (bits_are i h, bits_length-is i h)
       (ap (parent_of (map_bits m) (map_length m)) (sym own)
       ∙ parent-node m h.catalogue (upper x) (last_byte x) u.inside (subst (λ (y : Key). SomeBegins y m) e u.begins)) in
@@ -129,9 +128,9 @@ module _ (i : Image) (h : MapImage i) where
       m : Map
       m = image_map i
 
-      top : k < 2 → (o : Option ℕ) → parent_by (bit i.words) (bits_for (entries i)) k ≡ o → parent_by (bit i.words) (bits_for (entries i)) k ≡ none
-      top one none e = e
-      top one (some j) e = absurd (omega (arith, one, parent_by-told (bit i.words) (bits_for (entries i)) k j e))
+      top : k < 2 → (o : Option ℕ) → parent_by (bit i.words) (bits_for (entries i)) k ≡ o → parent_by (bit i.words) (bits_for (entries i)) k ≡ None
+      top one None e = e
+      top one (Some j) e = absurd (omega (arith, one, parent_by-told (bit i.words) (bits_for (entries i)) k j e))
 
       go : Dec (2 ≤ k)
           → ((up : ℕ) → up ≤ bound → IsNode m up → depth_by (bit i.words) (bits_for (entries i)) up ≡ length (path_of m up))

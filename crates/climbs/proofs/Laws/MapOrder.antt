@@ -10,7 +10,7 @@ use native.Mathlib.Decide.{dec_le, ℕ_discrete}
 use native.Mathlib.Omega.{arith}
 use mathlib.Core.Bool.{Bool, true, false, and-false}
 use mathlib.Core.List.{List, [], ◌∷◌, ◌++◌}
-use mathlib.Core.Option.{Option, none, some}
+use Rattle.std.specs.Prelude.{Option, None, Some}
 use lib.ListN.{length, get_or}
 use lib.Dec.{ltb}
 use borrow.Author.Tests.{lt-ltb, le-ltb, le-leb, eq-eqb}
@@ -26,10 +26,8 @@ use Rattle.keymap.proofs.Laws.Bits.{bit-small}
 use Rattle.keymap.proofs.Laws.Begins.{prefix-iff, prefix_refl, prefix_trans, prefix-chain, prefix-proper}
 use Rattle.keymap.proofs.Laws.Paths.{path_of-in, path_of-one, path_of-longer, node_of-node, node_of-path_of, children_in-ordered}
 use Rattle.keymap.proofs.Laws.Steps.{upper-last, next_in-index, last_in-index, next_in-first, last_in-none, next-child, last-child, next-sibling, last-sibling, paths_below-iff, least_above-valued, least_above-unvalued, least_above-last, nodes_above-falls}
-use Rattle.louds.specs.declared.answers.Spot.TheVariants.{At}
-use Rattle.louds.specs.declared.answers.Children.TheVariants.{Run}
 use Rattle.louds.specs.Select.{one_at}
-use Rattle.louds.specs.Nodes.{children_of}
+use Rattle.louds.specs.Nodes.{Run, children_of}
 use Rattle.louds.proofs.Laws.Rank.{ones-zeros}
 use Rattle.louds.proofs.Laws.Select.{rank-kth}
 use Rattle.louds.proofs.Laws.Nodes.{parent-told, parent-of-child, sibling-behind}
@@ -47,8 +45,8 @@ use Rattle.climbs.proofs.Laws.Order.{one_behind-inside, one_behind-told, first_r
 
 -- from a path, a step has come to the next of some paths, or there is none
 abbrev Landed : Map → List Key → Key → Option ℕ → Type 0
-Landed m ps x none = LastIn ps x
-Landed m ps x (some k) = IsNode m k × NextIn ps x (path_of m k)
+Landed m ps x None = LastIn ps x
+Landed m ps x (Some k) = IsNode m k × NextIn ps x (path_of m k)
 
 -- ---- in a map
 
@@ -137,12 +135,12 @@ module _ (m : Map) (c : Catalogue m) (top node at : ℕ) (seeking : Seeking m to
   seek-ends n = ap (given_by m) (seeking.same ∙ least_above-last m c.rising (path_of m top) (path_of m at) n)
 
   module _ (next : ℕ) (inside : IsNode m next) (n : NextIn (paths_below m (path_of m top)) (path_of m at) (path_of m next)) where
-    seek_found : (v : ℕ) → lookup (path_of m next) m ≡ some v → given_by m (least_above (path_of m node) (beginning (path_of m top) m)) ≡ Entry next v
+    seek_found : (v : ℕ) → lookup (path_of m next) m ≡ Some v → given_by m (least_above (path_of m node) (beginning (path_of m top) m)) ≡ Entry next v
     seek_found v e =
         ap (given_by m) (seeking.same ∙ least_above-valued m c.rising (path_of m top) (path_of m at) (path_of m next) v n e)
         ∙ ap (λ (k : ℕ). Entry k v) (node_of-path_of m c.rising next inside)
 
-    seek-on : lookup (path_of m next) m ≡ none → Seeking m top node next
+    seek-on : lookup (path_of m next) m ≡ None → Seeking m top node next
     seek-on e = record {
       under = record { top-inside = seeking.under.top-inside; inside = inside; begins = ((paths_below-iff m (path_of m top) (path_of m next)).0 n.among).1 };
       same = seeking.same ∙ least_above-unvalued m c.rising (path_of m top) (path_of m at) (path_of m next) n e;
@@ -200,13 +198,13 @@ module _ (i : Image) (h : MapImage i) where
           let own = kid i h k n d 0 l in
           let same : d.first + 0 ≡ d.first = omega arith in
           let counts : counts_to last k d.first ≡ true = counts_to-upto last k d.first (omega (arith, own.child.above)) ∙ le-leb d.first last (omega (arith, own.child.within)) in
-          let there : first_by b len last k ≡ some d.first = first_run b len last k d.first (degree m x) run ∙ rw (lt-ltb 0 (degree m x) l, counts) in
+          let there : first_by b len last k ≡ Some d.first = first_run b len last k d.first (degree m x) run ∙ rw (lt-ltb 0 (degree m x) l, counts) in
           subst (Landed m (children_in m x) x) (sym there) (
             rw same at own.inside,
             subst (NextIn (children_in m x) x) (sym (ap (path_of m) (sym same) ∙ d.paths 0 l)) (next_in-first m h.catalogue.rising x l),
           )
       go (no l) =
-          let bare : first_by b len last k ≡ none = first_run b len last k d.first (degree m x) run ∙ rw (le-ltb 0 (degree m x) (omega (arith, l))) in
+          let bare : first_by b len last k ≡ None = first_run b len last k d.first (degree m x) run ∙ rw (le-ltb 0 (degree m x) (omega (arith, l))) in
           subst (Landed m (children_in m x) x) (sym bare) (last_in-none m x (omega (arith, l)))
 
   beside-lands : (k : ℕ) → IsNode m k → 2 ≤ k → Landed m (children_in m (upper (path_of m k))) (path_of m k) (beside_by b len last k)
@@ -228,7 +226,7 @@ module _ (i : Image) (h : MapImage i) where
       (λ inside marked. omega (arith, back (omega (arith, inside, at), ap b at ∙ marked), s.number, size))
       (dec_le (suc (suc s.place)) (length (children_in m x)))
     where
-      go : (s : Placed m h.catalogue k) → path_of m (node_of m (upper (path_of m k))) ≡ upper (path_of m k) → (q : ℕ) → one_at b len k ≡ At q → node_of m (upper (path_of m k)) + k ≡ q + 1
+      go : (s : Placed m h.catalogue k) → path_of m (node_of m (upper (path_of m k))) ≡ upper (path_of m k) → (q : ℕ) → one_at b len k ≡ Some q → node_of m (upper (path_of m k)) + k ≡ q + 1
           → (suc s.place < length (children_in m (upper (path_of m k))) → (q + 1 < len) × (b (q + 1) ≡ 1))
           → (q + 1 < len → b (q + 1) ≡ 1 → suc s.place < length (children_in m (upper (path_of m k))))
           → Dec (suc s.place < length (children_in m (upper (path_of m k))))
@@ -242,7 +240,7 @@ module _ (i : Image) (h : MapImage i) where
           let path : path_of m (k + 1) ≡ get_or (children_in m x) j [] = ap (path_of m) (sym number) ∙ s.kids.paths j room ∙ ap (λ (y : Key). get_or (children_in m y) j []) v in
           let (within, marked) = there r in
           let behind : one_behind b len q ≡ true = one_behind-inside b len q within ∙ eq-eqb (b (q + 1)) 1 marked in
-          let is : beside_by b len last k ≡ some (k + 1) = beside_at b len last k q e ∙ rw (lt-ltb k last (omega (arith, inside, length-nodes i h)), behind) in
+          let is : beside_by b len last k ≡ Some (k + 1) = beside_at b len last k q e ∙ rw (lt-ltb k last (omega (arith, inside, length-nodes i h)), behind) in
           subst (Landed m (children_in m x) (path_of m k)) (sym is) (
             inside,
             subst (λ (y : Key). NextIn (children_in m x) y (path_of m (k + 1))) (sym s.own)
@@ -251,7 +249,7 @@ module _ (i : Image) (h : MapImage i) where
       go s v q e at there back (no r) =
           let x : Key = upper (path_of m k) in
           let full : suc s.place ≡ length (children_in m x) = omega (arith, s.among, r) in
-          let is : beside_by b len last k ≡ none = beside_at b len last k q e ∙ rw (bare (one_behind b len q) refl, and-false (ltb k last)) in
+          let is : beside_by b len last k ≡ None = beside_at b len last k q e ∙ rw (bare (one_behind b len q) refl, and-false (ltb k last)) in
           subst (Landed m (children_in m x) (path_of m k)) (sym is)
           (subst (LastIn (children_in m x)) (sym s.own) (last_in-index (children_in m x) (children_in-ordered m h.catalogue.rising x) s.place full))
         where
@@ -260,7 +258,7 @@ module _ (i : Image) (h : MapImage i) where
           bare false f = f
 
   climb-lands : (left top node : ℕ) → UnderTop m top node → (at : ℕ) → at < left → Climbing m top node at
-      → Landed m (paths_below m (path_of m top)) (path_of m node) (climbed_from b len last top left (some at))
+      → Landed m (paths_below m (path_of m top)) (path_of m node) (climbed_from b len last top left (Some at))
   climb-lands zero top node under at l k = absurd (omega (arith, l))
   climb-lands (suc left) top node under at l k = go (ℕ_discrete at top) (λ up u c. climb-lands left top node under up u c)
     where
@@ -268,8 +266,8 @@ module _ (i : Image) (h : MapImage i) where
       up = node_of m (upper (path_of m at))
 
       go : Dec (at ≡ top)
-          → ((up : ℕ) → up < left → Climbing m top node up → Landed m (paths_below m (path_of m top)) (path_of m node) (climbed_from b len last top left (some up)))
-          → Landed m (paths_below m (path_of m top)) (path_of m node) (climbed_from b len last top (suc left) (some at))
+          → ((up : ℕ) → up < left → Climbing m top node up → Landed m (paths_below m (path_of m top)) (path_of m node) (climbed_from b len last top left (Some up)))
+          → Landed m (paths_below m (path_of m top)) (path_of m node) (climbed_from b len last top (suc left) (Some at))
       go (yes e) goes_on = subst (Landed m (paths_below m (path_of m top)) (path_of m node)) (sym (climbed-top b len last top at (suc left) e)) (climb-ends m h.catalogue top node under at e k)
       go (no d) goes_on =
           subst (Landed m (paths_below m (path_of m top)) (path_of m node))
@@ -280,9 +278,9 @@ module _ (i : Image) (h : MapImage i) where
           low = climb-higher m h.catalogue top node under at k d
 
           turn : (o : Option ℕ) → Landed m (children_in m (upper (path_of m at))) (path_of m at) o
-              → Landed m (paths_below m (path_of m top)) (path_of m node) (or_else o (climbed_from b len last top left (some up)))
-          turn (some j) (inside, next) = (inside, climb-sibling m h.catalogue top node under at k d (path_of m j) next)
-          turn none none-next =
+              → Landed m (paths_below m (path_of m top)) (path_of m node) (or_else o (climbed_from b len last top left (Some up)))
+          turn (Some j) (inside, next) = (inside, climb-sibling m h.catalogue top node under at k d (path_of m j) next)
+          turn None none-next =
               goes_on up (omega (arith, l, (step-up m h.catalogue at k.inside low).lower)) (climb-up m h.catalogue top node under at k d none-next)
 
   advance-lands : (top at : ℕ) → UnderTop m top at → Landed m (paths_below m (path_of m top)) (path_of m at) (advance_by b len last top at)
@@ -290,9 +288,9 @@ module _ (i : Image) (h : MapImage i) where
   advance-lands top at under = turn (first_by b len last at) (first-lands at under.inside)
     where
       turn : (o : Option ℕ) → Landed m (children_in m (path_of m at)) (path_of m at) o
-          → Landed m (paths_below m (path_of m top)) (path_of m at) (or_else o (climbed_from b len last top (suc at) (some at)))
-      turn (some j) (inside, next) = (inside, next-child m (path_of m top) (path_of m at) (path_of m j) under.begins next)
-      turn none none-next = climb-lands (suc at) top at under at (omega arith) (climb-starts m h.catalogue top at under none-next)
+          → Landed m (paths_below m (path_of m top)) (path_of m at) (or_else o (climbed_from b len last top (suc at) (Some at)))
+      turn (Some j) (inside, next) = (inside, next-child m (path_of m top) (path_of m at) (path_of m j) under.begins next)
+      turn None none-next = climb-lands (suc at) top at under at (omega arith) (climb-starts m h.catalogue top at under none-next)
 
   seek : (left top node at : ℕ) → Seeking m top node at → nodes_above m (path_of m at) ≤ left
       → given_of (sought_from i.labels i.values b len top left (advance_by b len last top at)) ≡ given_by m (least_above (path_of m node) (beginning (path_of m top) m))
@@ -300,23 +298,23 @@ module _ (i : Image) (h : MapImage i) where
     where
       go : (o : Option ℕ) → Landed m (paths_below m (path_of m top)) (path_of m at) o
           → given_of (sought_from i.labels i.values b len top 0 o) ≡ given_by m (least_above (path_of m node) (beginning (path_of m top) m))
-      go none none-next = ap given_of (sought-done i.labels i.values b len top none) ∙ sym (seek-ends m h.catalogue top node at s none-next)
-      go (some k) (inside, next) = absurd (omega (arith, l, seek-fewer m h.catalogue top node at s k inside next))
+      go None none-next = ap given_of (sought-done i.labels i.values b len top None) ∙ sym (seek-ends m h.catalogue top node at s none-next)
+      go (Some k) (inside, next) = absurd (omega (arith, l, seek-fewer m h.catalogue top node at s k inside next))
   seek (suc left) top node at s l = go (advance_by b len last top at) (advance-lands top at s.under) (λ k u f. seek left top node k u f)
     where
       go : (o : Option ℕ) → Landed m (paths_below m (path_of m top)) (path_of m at) o
           → ((k : ℕ) → Seeking m top node k → nodes_above m (path_of m k) ≤ left
           → given_of (sought_from i.labels i.values b len top left (advance_by b len last top k)) ≡ given_by m (least_above (path_of m node) (beginning (path_of m top) m)))
           → given_of (sought_from i.labels i.values b len top (suc left) o) ≡ given_by m (least_above (path_of m node) (beginning (path_of m top) m))
-      go none none-next goes_on = ap given_of (sought-lost i.labels i.values b len top (suc left)) ∙ sym (seek-ends m h.catalogue top node at s none-next)
-      go (some k) (inside, next) goes_on = value (value_of_node i.labels i.values k) refl
+      go None none-next goes_on = ap given_of (sought-lost i.labels i.values b len top (suc left)) ∙ sym (seek-ends m h.catalogue top node at s none-next)
+      go (Some k) (inside, next) goes_on = value (value_of_node i.labels i.values k) refl
         where
           value : (o : Option ℕ) → value_of_node i.labels i.values k ≡ o
-              → given_of (sought_from i.labels i.values b len top (suc left) (some k)) ≡ given_by m (least_above (path_of m node) (beginning (path_of m top) m))
-          value (some v) e =
+              → given_of (sought_from i.labels i.values b len top (suc left) (Some k)) ≡ given_by m (least_above (path_of m node) (beginning (path_of m top) m))
+          value (Some v) e =
               ap given_of (sought-value i.labels i.values b len top (suc left) k v (omega arith) e)
               ∙ sym (seek_found m h.catalogue top node at s k inside next v (sym (node-value i h k inside) ∙ e))
-          value none e =
+          value None e =
               let back : suc left - 1 ≡ left = omega arith in
               ap given_of
               (sought-on i.labels i.values b len top (suc left) k (omega arith) e

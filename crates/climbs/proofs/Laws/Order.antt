@@ -14,18 +14,15 @@ use native.Mathlib.Decide.{dec_le}
 use native.Mathlib.Omega.{arith}
 use mathlib.Core.Bool.{Bool, true, false, true≢false, cond, ◌&&◌}
 use mathlib.Core.List.{List}
-use mathlib.Core.Option.{Option, none, some}
+use Rattle.std.specs.Prelude.{Option, None, Some, unwrap_or}
 use lib.ListN.{length}
 use lib.Dec.{eqb, ltb}
 use borrow.Author.Tests.{lt-ltb, le-ltb, eq-eqb, ne_eqb, eqb-true}
 use Rattle.keymap.specs.Bits.{sum_below}
 use Rattle.keymap.proofs.Laws.Sums.{sum_below-mono, sum_below-next}
-use Rattle.louds.specs.declared.answers.Spot.{Spot}
-use Rattle.louds.specs.declared.answers.Spot.TheVariants.{At, Missing}
-use Rattle.louds.specs.declared.answers.Children.TheVariants.{Run}
 use Rattle.louds.specs.Rank.{gap}
 use Rattle.louds.specs.Select.{one_at, zero_at}
-use Rattle.louds.specs.Nodes.{or_end, children_of}
+use Rattle.louds.specs.Nodes.{Run, children_of}
 use Rattle.louds.proofs.Laws.Rank.{gap-small, bit-gap}
 use Rattle.louds.proofs.Laws.Select.{Stands, rank-kth, kth-missing, kth-mono}
 use Rattle.louds.proofs.Laws.Nodes.{children-none, children-at}
@@ -55,13 +52,12 @@ module _ (b : ℕ → ℕ) (len p : ℕ) where
 -- ---- the first child
 
 module _ (b : ℕ → ℕ) (small : (i : ℕ) → b i ≤ 1) (len last : ℕ) where
-  pub first-lost : (k : ℕ) → zero_at b len k ≡ Missing → first_by b len last k ≡ none
+  pub first-lost : (k : ℕ) → zero_at b len k ≡ None → first_by b len last k ≡ None
   unfolding first_by
   first-lost k e = ap (first_of last k) (children-none b len k e)
 
   -- node k has children exactly if a one stands right behind its zero
-  run-behind : (k z : ℕ) → zero_at b len k ≡ At z → ltb 0 (or_end len (zero_at b len (k + 1)) - (z + 1)) ≡ one_behind b len z
-  unfolding or_end
+  run-behind : (k z : ℕ) → zero_at b len k ≡ Some z → ltb 0 (unwrap_or (zero_at b len (k + 1)) len - (z + 1)) ≡ one_behind b len z
   run-behind k z e = go (zero_at b len (k + 1)) refl
     where
       s : Stands (gap b) len k z
@@ -84,8 +80,8 @@ module _ (b : ℕ → ℕ) (small : (i : ℕ) → b i ≤ 1) (len last : ℕ) wh
           one (yes h) = h
           one (no h) = absurd (omega (arith, zeros h, few, sum_below-mono (gap b) {i = z + 1 + 1} {j = stop} (omega (arith, l))))
 
-      go : (t : Spot) → zero_at b len (k + 1) ≡ t → ltb 0 (or_end len (zero_at b len (k + 1)) - (z + 1)) ≡ one_behind b len z
-      go (At q) f = rw f (near (rank-kth (gap b) (gap-small b) len (k + 1) q f) (dec_le q (z + 1)))
+      go : (t : (Option ℕ)) → zero_at b len (k + 1) ≡ t → ltb 0 (unwrap_or (zero_at b len (k + 1)) len - (z + 1)) ≡ one_behind b len z
+      go (Some q) f = rw f (near (rank-kth (gap b) (gap-small b) len (k + 1) q f) (dec_le q (z + 1)))
         where
           after : z < q
           after = kth-mono (gap b) (gap-small b) len k (k + 1) z q e f (omega arith)
@@ -96,45 +92,45 @@ module _ (b : ℕ → ℕ) (small : (i : ℕ) → b i ≤ 1) (len last : ℕ) wh
               le-ltb 0 (q - (z + 1)) (omega (arith, same))
               ∙ sym (one_behind-inside b len z (omega (arith, same, r.inside)) ∙ ne_eqb (b (z + 1)) 1 (λ h. omega (arith, h, bit-gap b small (z + 1), r.marked, ap (gap b) same)))
           near r (no l) = more q (lt_of_not-le l) (omega (arith, r.inside)) (omega (arith, r.rank))
-      go Missing f = rw f (near (dec_le len (z + 1)))
+      go None f = rw f (near (dec_le len (z + 1)))
         where
           near : Dec (len ≤ z + 1) → ltb 0 (len - (z + 1)) ≡ one_behind b len z
           near (yes l) = le-ltb 0 (len - (z + 1)) (omega (arith, l)) ∙ sym (one_behind-far b len z l)
           near (no l) = more len (lt_of_not-le l) (omega arith) (omega (arith, kth-missing (gap b) len (k + 1) (omega arith) f))
 
-  pub first-at : (k z : ℕ) → zero_at b len k ≡ At z → first_by b len last k ≡ cond (one_behind b len z && counts_to last k (z + 2 - k)) (some (z + 2 - k)) none
+  pub first-at : (k z : ℕ) → zero_at b len k ≡ Some z → first_by b len last k ≡ cond (one_behind b len z && counts_to last k (z + 2 - k)) (Some (z + 2 - k)) None
   unfolding first_by
   first-at k z e =
       let s = rank-kth (gap b) (gap-small b) len k z e in
       let number : z + 1 - (k - 1) ≡ z + 2 - k = omega (arith, s.rank) in
       ap (first_of last k) (children-at b small len k z e)
-      ∙ ap₂ (λ (t : Bool) (m : ℕ). cond (t && counts_to last k m) (some m) none) (run-behind k z e) number
+      ∙ ap₂ (λ (t : Bool) (m : ℕ). cond (t && counts_to last k m) (Some m) None) (run-behind k z e) number
 
 pub first_run : (b : ℕ → ℕ) (len last k first count : ℕ) → children_of b len k ≡ Run first count
-    → first_by b len last k ≡ cond (ltb 0 count && counts_to last k first) (some first) none
+    → first_by b len last k ≡ cond (ltb 0 count && counts_to last k first) (Some first) None
 unfolding first_by
 first_run b len last k first count e = ap (first_of last k) e
 
 -- ---- the next sibling
 
 module _ (b : ℕ → ℕ) (len last k : ℕ) where
-  pub beside-lost : one_at b len k ≡ Missing → beside_by b len last k ≡ none
+  pub beside-lost : one_at b len k ≡ None → beside_by b len last k ≡ None
   unfolding beside_by
   beside-lost e = ap (beside_of b len last k) e
 
-  pub beside_at : (p : ℕ) → one_at b len k ≡ At p → beside_by b len last k ≡ cond (ltb k last && one_behind b len p) (some (k + 1)) none
+  pub beside_at : (p : ℕ) → one_at b len k ≡ Some p → beside_by b len last k ≡ cond (ltb k last && one_behind b len p) (Some (k + 1)) None
   unfolding beside_by
   beside_at p e = ap (beside_of b len last k) e
 
 -- ---- climbs
 
 module _ (b : ℕ → ℕ) (len last top k : ℕ) where
-  pub climbed-top : (left : ℕ) → k ≡ top → climbed_from b len last top left (some k) ≡ none
+  pub climbed-top : (left : ℕ) → k ≡ top → climbed_from b len last top left (Some k) ≡ None
   unfolding climbed_from
   climbed-top zero h = refl
   climbed-top (suc left) h = rw (eq-eqb k top h)
 
-  pub climbed-on : (left : ℕ) → ¬ (k ≡ top) → climbed_from b len last top (suc left) (some k) ≡ or_else (beside_by b len last k) (climbed_from b len last top left (parent_by b len k))
+  pub climbed-on : (left : ℕ) → ¬ (k ≡ top) → climbed_from b len last top (suc left) (Some k) ≡ or_else (beside_by b len last k) (climbed_from b len last top left (parent_by b len k))
   unfolding climbed_from
   climbed-on left h = rw (ne_eqb k top h)
 
@@ -145,22 +141,22 @@ module _ (ls vs : List ℕ) (b : ℕ → ℕ) (len top : ℕ) where
   unfolding next_by
   next-starts k = refl
 
-  pub sought-done : (o : Option ℕ) → sought_from ls vs b len top 0 o ≡ none
+  pub sought-done : (o : Option ℕ) → sought_from ls vs b len top 0 o ≡ None
   unfolding sought_from
   sought-done o = refl
 
-  pub sought-lost : (left : ℕ) → sought_from ls vs b len top left none ≡ none
+  pub sought-lost : (left : ℕ) → sought_from ls vs b len top left None ≡ None
   unfolding sought_from
   sought-lost zero = refl
   sought-lost (suc left) = refl
 
-  pub sought-value : (left k v : ℕ) → 0 < left → value_of_node ls vs k ≡ some v → sought_from ls vs b len top left (some k) ≡ some (k, v)
+  pub sought-value : (left k v : ℕ) → 0 < left → value_of_node ls vs k ≡ Some v → sought_from ls vs b len top left (Some k) ≡ Some (k, v)
   unfolding sought_from
   sought-value zero k v l e = absurd (omega arith)
   sought-value (suc left) k v l e = ap (λ (o : Option ℕ). or_else (with_value k o) (sought_from ls vs b len top left (advance_by b len (length ls + 1) top k))) e
 
-  pub sought-on : (left k : ℕ) → 0 < left → value_of_node ls vs k ≡ none
-      → sought_from ls vs b len top left (some k) ≡ sought_from ls vs b len top (left - 1) (advance_by b len (length ls + 1) top k)
+  pub sought-on : (left k : ℕ) → 0 < left → value_of_node ls vs k ≡ None
+      → sought_from ls vs b len top left (Some k) ≡ sought_from ls vs b len top (left - 1) (advance_by b len (length ls + 1) top k)
   unfolding sought_from
   sought-on zero k l e = absurd (omega arith)
   sought-on (suc left) k l e =

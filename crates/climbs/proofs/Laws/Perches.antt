@@ -14,22 +14,17 @@ use native.Mathlib.Nat.{lt_of_not-le}
 use native.Mathlib.Decide.{dec_le}
 use native.Mathlib.Omega.{arith}
 use mathlib.Core.Bool.{Bool, true, false, true≢false}
-use mathlib.Core.Option.{Option, none, some, none-ne-some}
+use Rattle.std.specs.Prelude.{Option, None, Some, unwrap_or}
+use Rattle.std.proofs.lemmas.Option.{none-some}
 use lib.Dec.{ltb}
 use borrow.Author.Tests.{lt-ltb, le-ltb, le-leb, lt-leb, ltb-true}
-use Rattle.louds.specs.declared.answers.Spot.{Spot}
-use Rattle.louds.specs.declared.answers.Spot.TheVariants.{At, Missing}
-use Rattle.louds.specs.declared.answers.Up.{Up}
-use Rattle.louds.specs.declared.answers.Up.TheVariants.{Node, NoOne}
 use Rattle.louds.specs.Select.{one_at, one_back}
-use Rattle.louds.specs.Nodes.{or_end, parent_of}
+use Rattle.louds.specs.Nodes.{parent_of}
 use Rattle.louds.proofs.Laws.Rank.{ones-zeros}
 use Rattle.louds.proofs.Laws.Select.{Stands, rank-kth, kth-exists, kth-back}
 use Rattle.louds.proofs.Laws.Nodes.{parent-none, parent-at, parent-told}
 use Rattle.keymap.proofs.Laws.Sums.{sum_below-mono}
 use Rattle.climbs.specs.declared.perches.Perch.{Perch}
-use Rattle.climbs.specs.declared.perches.Rise.{Rise}
-use Rattle.climbs.specs.declared.perches.Rise.TheVariants.{Parent, NoParent}
 use Rattle.climbs.specs.Perches.{below, parent_by, climbs, depth_by, perch_at, has_parent, parent_from, rise_at}
 
 -- ---- the test
@@ -78,60 +73,59 @@ module _ (len m p : ℕ) where
       far (no l) = root (lt_of_not-le l) (dec_le 1 m)
 
 module _ (b : ℕ → ℕ) (len : ℕ) (at : Perch) where
-  pub parent_from-none : has_parent len at.node at.one ≡ false → parent_from b len at ≡ NoParent
+  pub parent_from-none : has_parent len at.node at.one ≡ false → parent_from b len at ≡ None
   unfolding parent_from
   parent_from-none e = rw e
 
   pub parent_from-some : has_parent len at.node at.one ≡ true
       → parent_from b len at
-      ≡ Parent (record { node = at.one - (at.node - 1); one = or_end at.one (one_back b at.one (at.node - (at.one - (at.node - 1)))) })
+      ≡ Some (record { node = at.one - (at.node - 1); one = unwrap_or (one_back b at.one (at.node - (at.one - (at.node - 1)))) at.one })
   unfolding parent_from
   parent_from-some e = rw e
 
 -- ---- the rule
 
 module _ (b : ℕ → ℕ) (len : ℕ) where
-  pub parent_by-lost : (m : ℕ) → parent_of b len m ≡ NoOne → parent_by b len m ≡ none
+  pub parent_by-lost : (m : ℕ) → parent_of b len m ≡ None → parent_by b len m ≡ None
   unfolding parent_by
   parent_by-lost m e = ap (below m) e
 
-  pub parent_by-node : (m k : ℕ) → parent_of b len m ≡ Node k → 1 ≤ k → k < m → parent_by b len m ≡ some k
+  pub parent_by-node : (m k : ℕ) → parent_of b len m ≡ Some k → 1 ≤ k → k < m → parent_by b len m ≡ Some k
   unfolding parent_by
   parent_by-node m k e l u = ap (below m) e ∙ rw (le-leb 1 k l, lt-ltb k m u)
 
-  pub parent_by-zero : (m : ℕ) → parent_of b len m ≡ Node 0 → parent_by b len m ≡ none
+  pub parent_by-zero : (m : ℕ) → parent_of b len m ≡ Some 0 → parent_by b len m ≡ None
   unfolding parent_by
   parent_by-zero m e = ap (below m) e
 
-  pub parent_by-high : (m k : ℕ) → parent_of b len m ≡ Node k → 1 ≤ k → m ≤ k → parent_by b len m ≡ none
+  pub parent_by-high : (m k : ℕ) → parent_of b len m ≡ Some k → 1 ≤ k → m ≤ k → parent_by b len m ≡ None
   unfolding parent_by
   parent_by-high m k e l u = ap (below m) e ∙ rw (le-leb 1 k l, le-ltb k m u)
 
-  pub parent_by-told : (m k : ℕ) → parent_by b len m ≡ some k → (1 ≤ k) × (k < m)
+  pub parent_by-told : (m k : ℕ) → parent_by b len m ≡ Some k → (1 ≤ k) × (k < m)
   parent_by-told m k e = go (parent_of b len m) refl
     where
-      high : (j : ℕ) → parent_of b len m ≡ Node j → 1 ≤ j → Dec (m ≤ j) → (1 ≤ k) × (k < m)
-      high j f l (yes u) = absurd (none-ne-some k (sym (parent_by-high m j f l u) ∙ e))
+      high : (j : ℕ) → parent_of b len m ≡ Some j → 1 ≤ j → Dec (m ≤ j) → (1 ≤ k) × (k < m)
+      high j f l (yes u) = absurd (none-some k (sym (parent_by-high m j f l u) ∙ e))
       high j f l (no u) =
-          let g : ◌≡◌ {A = Option ℕ} (some j) (some k) = sym (parent_by-node m j f l (lt_of_not-le u)) ∙ e in
+          let g : ◌≡◌ {A = Option ℕ} (Some j) (Some k) = sym (parent_by-node m j f l (lt_of_not-le u)) ∙ e in
           let same : j ≡ k = cc in
           (omega (arith, same, l), omega (arith, same, lt_of_not-le u))
 
-      go : (u : Up) → parent_of b len m ≡ u → (1 ≤ k) × (k < m)
-      go NoOne f = absurd (none-ne-some k (sym (parent_by-lost m f) ∙ e))
-      go (Node zero) f = absurd (none-ne-some k (sym (parent_by-zero m f) ∙ e))
-      go (Node (suc j)) f = high (suc j) f (omega arith) (dec_le m (suc j))
+      go : (u : (Option ℕ)) → parent_of b len m ≡ u → (1 ≤ k) × (k < m)
+      go None f = absurd (none-some k (sym (parent_by-lost m f) ∙ e))
+      go (Some zero) f = absurd (none-some k (sym (parent_by-zero m f) ∙ e))
+      go (Some (suc j)) f = high (suc j) f (omega arith) (dec_le m (suc j))
 
 -- ---- a perch that knows its one
 
 module _ (b : ℕ → ℕ) (small : (i : ℕ) → b i ≤ 1) (len : ℕ) where
-  pub perch-lost : (m : ℕ) → parent_of b len m ≡ NoOne → perch_at b len m ≡ record { node = m; one = len }
-  unfolding or_end
+  pub perch-lost : (m : ℕ) → parent_of b len m ≡ None → perch_at b len m ≡ record { node = m; one = len }
   perch-lost m e = go (one_at b len m) refl
     where
-      go : (t : Spot) → one_at b len m ≡ t → perch_at b len m ≡ record { node = m; one = len }
-      go (At q) f = let r = parent-at b small len m q f in let z : ◌≡◌ {A = ℕ} 0 1 = cc in absurd (omega arith)
-      go Missing f = let one : or_end len (one_at b len m) ≡ len = ap (or_end len) f in λ x. record { node = m; one = one x }
+      go : (t : (Option ℕ)) → one_at b len m ≡ t → perch_at b len m ≡ record { node = m; one = len }
+      go (Some q) f = let r = parent-at b small len m q f in let z : ◌≡◌ {A = ℕ} 0 1 = cc in absurd (omega arith)
+      go None f = let one : unwrap_or (one_at b len m) len ≡ len = ap (λ (o : Option ℕ). unwrap_or o len) f in λ x. record { node = m; one = one x }
 
   -- m-1 ones and k zeros stand before the one
   pub record UpTold (m k : ℕ) : Type 0 where
@@ -139,28 +133,26 @@ module _ (b : ℕ → ℕ) (small : (i : ℕ) → b i ≤ 1) (len : ℕ) where
     pub inside : k + (m - 1) < len
     pub perch : perch_at b len m ≡ record { node = m; one = k + (m - 1) }
 
-  pub perch-up : (m k : ℕ) → parent_of b len m ≡ Node k → UpTold m k
-  unfolding or_end
+  pub perch-up : (m k : ℕ) → parent_of b len m ≡ Some k → UpTold m k
   perch-up m k e =
       let (q, u) = parent-told b small len m k e in
       let s = rank-kth b small len m q u.answer in
       let at : q ≡ k + (m - 1) = omega (arith, u.zeros, s.rank, ones-zeros b small q) in
-      let one : or_end len (one_at b len m) ≡ k + (m - 1) = ap (or_end len) u.answer ∙ at in
+      let one : unwrap_or (one_at b len m) len ≡ k + (m - 1) = ap (λ (o : Option ℕ). unwrap_or o len) u.answer ∙ at in
       record { node = omega (arith, s.rank); inside = omega (arith, s.inside, at); perch = λ x. record { node = m; one = one x } }
 
   pub parent-rule : (m : ℕ) → parent_from b len (perch_at b len m) ≡ rise_at b len (parent_by b len m)
-  unfolding or_end
   parent-rule m = go (one_at b len m) refl
     where
-      test : (q : ℕ) → one_at b len m ≡ At q → Stands b len m q → (t : Bool) → has_parent len m q ≡ t → parent_from b len (record { node = m; one = q }) ≡ rise_at b len (parent_by b len m)
+      test : (q : ℕ) → one_at b len m ≡ Some q → Stands b len m q → (t : Bool) → has_parent len m q ≡ t → parent_from b len (record { node = m; one = q }) ≡ rise_at b len (parent_by b len m)
       test q e s true f =
           let h = has_parent-told len m q f in
           let up : ℕ = q - (m - 1) in
           let (p, own) = kth-exists b len up (omega (arith, h)) (omega (arith, h, s, sum_below-mono b {i = q} {j = len} (omega (arith, s.inside)))) in
-          let back : one_back b q (m - up) ≡ At p = kth-back b small len up m p q own.answer e (omega (arith, h)) in
-          let one : or_end q (one_back b q (m - up)) ≡ or_end len (one_at b len up) = ap (or_end q) back ∙ sym (ap (or_end len) own.answer) in
+          let back : one_back b q (m - up) ≡ Some p = kth-back b small len up m p q own.answer e (omega (arith, h)) in
+          let one : unwrap_or (one_back b q (m - up)) q ≡ unwrap_or (one_at b len up) len = ap (λ (o : Option ℕ). unwrap_or o q) back ∙ sym (ap (λ (o : Option ℕ). unwrap_or o len) own.answer) in
           parent_from-some b len (record { node = m; one = q }) f
-          ∙ (λ x. Parent (record { node = up; one = one x }))
+          ∙ (λ x. Some (record { node = up; one = one x }))
           ∙ sym (ap (rise_at b len) (parent_by-node b len m up (parent-at b small len m q e) (omega (arith, h)) (omega (arith, h))))
       test q e s false f =
           parent_from-none b len (record { node = m; one = q }) f
@@ -169,23 +161,23 @@ module _ (b : ℕ → ℕ) (small : (i : ℕ) → b i ≤ 1) (len : ℕ) where
           up : ℕ
           up = q - (m - 1)
 
-          high : m ≤ q → Dec (m ≤ up) → parent_by b len m ≡ none
+          high : m ≤ q → Dec (m ≤ up) → parent_by b len m ≡ None
           high l (yes u) = parent_by-high b len m up (parent-at b small len m q e) (omega (arith, l, s)) u
           high l (no u) =
               let t : has_parent len m q ≡ true = has_parent-last len m q s.inside (λ z. omega (arith, z, s)) l ∙ lt-ltb up m (lt_of_not-le u) in
               absurd (true≢false (sym t ∙ f))
 
-          nowhere : Dec (m ≤ q) → parent_by b len m ≡ none
+          nowhere : Dec (m ≤ q) → parent_by b len m ≡ None
           nowhere (yes l) = high l (dec_le m up)
-          nowhere (no l) = parent_by-zero b len m (parent-at b small len m q e ∙ ap Node (omega (arith, lt_of_not-le l, s, ones-zeros b small q)))
+          nowhere (no l) = parent_by-zero b len m (parent-at b small len m q e ∙ ap Some (omega (arith, lt_of_not-le l, s, ones-zeros b small q)))
 
-      go : (t : Spot) → one_at b len m ≡ t → parent_from b len (perch_at b len m) ≡ rise_at b len (parent_by b len m)
-      go (At q) e =
-          let z : or_end len (one_at b len m) ≡ q = ap (or_end len) e in
+      go : (t : (Option ℕ)) → one_at b len m ≡ t → parent_from b len (perch_at b len m) ≡ rise_at b len (parent_by b len m)
+      go (Some q) e =
+          let z : unwrap_or (one_at b len m) len ≡ q = ap (λ (o : Option ℕ). unwrap_or o len) e in
           ap (parent_from b len) (λ x. record { node = m; one = z x })
           ∙ test q e (rank-kth b small len m q e) (has_parent len m q) refl
-      go Missing e =
-          let z : or_end len (one_at b len m) ≡ len = ap (or_end len) e in
+      go None e =
+          let z : unwrap_or (one_at b len m) len ≡ len = ap (λ (o : Option ℕ). unwrap_or o len) e in
           ap (parent_from b len) (λ x. record { node = m; one = z x })
           ∙ parent_from-none b len (record { node = m; one = len }) (has_parent-far len m len (omega arith))
           ∙ sym (ap (rise_at b len) (parent_by-lost b len m (parent-none b len m e)))
@@ -194,45 +186,45 @@ module _ (b : ℕ → ℕ) (small : (i : ℕ) → b i ≤ 1) (len : ℕ) where
 
 -- the bound is enough
 abbrev Within : ℕ → Option ℕ → Type 0
-Within n none = Unit {0}
-Within n (some k) = (1 ≤ k) × (k ≤ n)
+Within n None = Unit {0}
+Within n (Some k) = (1 ≤ k) × (k ≤ n)
 
 module _ (b : ℕ → ℕ) (len : ℕ) where
   parent-within : (k n : ℕ) → k ≤ suc n → (o : Option ℕ) → parent_by b len k ≡ o → Within n o
-  parent-within k n l none e = tt
-  parent-within k n l (some j) e = let (low, high) = parent_by-told b len k j e in (low, omega (arith, high))
+  parent-within k n l None e = tt
+  parent-within k n l (Some j) e = let (low, high) = parent_by-told b len k j e in (low, omega (arith, high))
 
   climbs-enough : (f g : ℕ) (o : Option ℕ) → Within f o → Within g o → climbs b len f o ≡ climbs b len g o
   unfolding climbs
   climbs-enough zero zero o v w = refl
-  climbs-enough zero (suc g) none v w = refl
-  climbs-enough zero (suc g) (some k) v w = absurd (omega (arith, v))
-  climbs-enough (suc f) zero none v w = refl
-  climbs-enough (suc f) zero (some k) v w = absurd (omega (arith, w))
-  climbs-enough (suc f) (suc g) none v w = refl
-  climbs-enough (suc f) (suc g) (some k) v w =
+  climbs-enough zero (suc g) None v w = refl
+  climbs-enough zero (suc g) (Some k) v w = absurd (omega (arith, v))
+  climbs-enough (suc f) zero None v w = refl
+  climbs-enough (suc f) zero (Some k) v w = absurd (omega (arith, w))
+  climbs-enough (suc f) (suc g) None v w = refl
+  climbs-enough (suc f) (suc g) (Some k) v w =
       ap suc (climbs-enough f g (parent_by b len k) (parent-within k f v.1 (parent_by b len k) refl) (parent-within k g w.1 (parent_by b len k) refl))
 
-  climbs-none : (f : ℕ) → climbs b len f none ≡ 0
+  climbs-none : (f : ℕ) → climbs b len f None ≡ 0
   unfolding climbs
   climbs-none zero = refl
   climbs-none (suc f) = refl
 
-  climbs-some : (f k : ℕ) → climbs b len (suc f) (some k) ≡ suc (climbs b len f (parent_by b len k))
+  climbs-some : (f k : ℕ) → climbs b len (suc f) (Some k) ≡ suc (climbs b len f (parent_by b len k))
   unfolding climbs
   climbs-some f k = refl
 
-  pub depth-root : (m : ℕ) → parent_by b len m ≡ none → depth_by b len m ≡ 0
+  pub depth-root : (m : ℕ) → parent_by b len m ≡ None → depth_by b len m ≡ 0
   unfolding depth_by
   depth-root m e = ap (climbs b len m) e ∙ climbs-none m
 
-  pub depth-next : (m k : ℕ) → parent_by b len m ≡ some k → depth_by b len m ≡ suc (depth_by b len k)
+  pub depth-next : (m k : ℕ) → parent_by b len m ≡ Some k → depth_by b len m ≡ suc (depth_by b len k)
   unfolding depth_by
   depth-next m k e =
       let (low, high) = parent_by-told b len m k e in
       let back : suc (m - 1) ≡ m = omega (arith, high) in
       ap (climbs b len m) e
-      ∙ ap (λ (f : ℕ). climbs b len f (some k)) (sym back)
+      ∙ ap (λ (f : ℕ). climbs b len f (Some k)) (sym back)
       ∙ climbs-some (m - 1) k
       ∙ ap suc (climbs-enough (m - 1) k (parent_by b len k) (parent-within k (m - 1) (omega (arith, high)) (parent_by b len k) refl) (parent-within k k (omega arith) (parent_by b len k) refl))
 
@@ -240,26 +232,26 @@ module _ (b : ℕ → ℕ) (len : ℕ) where
 
 -- the parent of node m, as a perch that knows its one
 pub record RiseTold (b : ℕ → ℕ) (len m : ℕ) (t : Perch) : Type 0 where
-  pub node : parent_by b len m ≡ some t.node
+  pub node : parent_by b len m ≡ Some t.node
   pub knows : t ≡ perch_at b len t.node
   pub lower : t.node < m
 
-module _ (b : ℕ → ℕ) (small : (i : ℕ) → b i ≤ 1) (len : ℕ) (at : Perch) (known : at ≡ perch_at b len at.node) (r : Rise) (e : r ≡ parent_from b len at) where
+module _ (b : ℕ → ℕ) (small : (i : ℕ) → b i ≤ 1) (len : ℕ) (at : Perch) (known : at ≡ perch_at b len at.node) (r : (Option Perch)) (e : r ≡ parent_from b len at) where
   rise-is : rise_at b len (parent_by b len at.node) ≡ r
   rise-is = sym (e ∙ ap (parent_from b len) known ∙ parent-rule b small len at.node)
 
-  pub rise-to : (t : Perch) → r ≡ Parent t → RiseTold b len at.node t
+  pub rise-to : (t : Perch) → r ≡ Some t → RiseTold b len at.node t
   rise-to t f = go (parent_by b len at.node) refl (rise-is ∙ f)
     where
-      go : (o : Option ℕ) → parent_by b len at.node ≡ o → rise_at b len o ≡ Parent t → RiseTold b len at.node t
-      go none p g = let z : ◌≡◌ {A = ℕ} 0 1 = cc in absurd (omega arith)
-      go (some k) p g =
+      go : (o : Option ℕ) → parent_by b len at.node ≡ o → rise_at b len o ≡ Some t → RiseTold b len at.node t
+      go None p g = let z : ◌≡◌ {A = ℕ} 0 1 = cc in absurd (omega arith)
+      go (Some k) p g =
           let same : perch_at b len k ≡ t = cc in
           rw (← same) (record { node = p; knows = refl; lower = omega (arith, parent_by-told b len at.node k p) })
 
-  pub rise-lost : r ≡ NoParent → parent_by b len at.node ≡ none
+  pub rise-lost : r ≡ None → parent_by b len at.node ≡ None
   rise-lost f = go (parent_by b len at.node) refl (rise-is ∙ f)
     where
-      go : (o : Option ℕ) → parent_by b len at.node ≡ o → rise_at b len o ≡ NoParent → parent_by b len at.node ≡ none
-      go none p g = p
-      go (some k) p g = let z : ◌≡◌ {A = ℕ} 0 1 = cc in absurd (omega arith)
+      go : (o : Option ℕ) → parent_by b len at.node ≡ o → rise_at b len o ≡ None → parent_by b len at.node ≡ None
+      go None p g = p
+      go (Some k) p g = let z : ◌≡◌ {A = ℕ} 0 1 = cc in absurd (omega arith)

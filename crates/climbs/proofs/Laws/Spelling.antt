@@ -16,7 +16,7 @@ use native.Mathlib.Decide.{dec_le}
 use native.Mathlib.Omega.{arith}
 use mathlib.Core.Bool.{true, false, true≢false, cond}
 use mathlib.Core.List.{List, [], ◌∷◌, ◌++◌, append_assoc}
-use mathlib.Core.Option.{Option, none, some}
+use Rattle.std.specs.Prelude.{Option, None, Some}
 use lib.ListN.{length, get_or, take, drop, set, take-append-drop}
 use lib.Seq.{drop-length, take-suc, drop_at, set_at, length-take-le}
 use lib.Dec.{eqb, leb}
@@ -65,18 +65,18 @@ module _ (ls : List ℕ) (b : ℕ → ℕ) (len : ℕ) where
   unfolding spelled_from
   spelled_from-done at out = refl
 
-  pub spelled_from-lost : (left : ℕ) (out : List ℕ) → spelled_from ls b len left none out ≡ out
+  pub spelled_from-lost : (left : ℕ) (out : List ℕ) → spelled_from ls b len left None out ≡ out
   unfolding spelled_from
   spelled_from-lost zero out = refl
   spelled_from-lost (suc left) out = refl
 
-  pub spelled_from-bare : (left k : ℕ) (out : List ℕ) → has_entry (length ls) k ≡ false → spelled_from ls b len left (some k) out ≡ out
+  pub spelled_from-bare : (left k : ℕ) (out : List ℕ) → has_entry (length ls) k ≡ false → spelled_from ls b len left (Some k) out ≡ out
   unfolding spelled_from
   spelled_from-bare zero k out e = refl
   spelled_from-bare (suc left) k out e = rw e
 
   pub spelled_from-next : (left k : ℕ) (out : List ℕ) → 0 < left → has_entry (length ls) k ≡ true
-      → spelled_from ls b len left (some k) out ≡ spelled_from ls b len (left - 1) (parent_by b len k) (set out (left - 1) (label_in (get_or ls (k - 2) 0)))
+      → spelled_from ls b len left (Some k) out ≡ spelled_from ls b len (left - 1) (parent_by b len k) (set out (left - 1) (label_in (get_or ls (k - 2) 0)))
   unfolding spelled_from
   spelled_from-next zero k out l e = absurd (omega arith)
   spelled_from-next (suc left) k out l e = let back : suc left - 1 ≡ left = omega arith in rw (e, back)
@@ -86,7 +86,7 @@ module _ (ls : List ℕ) (b : ℕ → ℕ) (len : ℕ) where
     unfolding spelled_by
     spelled_by-short h = rw (lt-leb count (length out) h)
 
-    pub spelled_by-room : count ≤ length out → spelled_by ls b len k count out ≡ spelled_from ls b len count (some k) out
+    pub spelled_by-room : count ≤ length out → spelled_by ls b len k count out ≡ spelled_from ls b len count (Some k) out
     unfolding spelled_by
     spelled_by-room h = rw (le-leb count (length out) h)
 
@@ -183,9 +183,9 @@ module _ (i : Image) (h : MapImage i) where
 
   spell-from : (left node count : ℕ) (before : List ℕ) → count ≤ length (path_of (image_map i) node) → count ≤ length before
       → (at : ℕ) (out : List ℕ) → Spelling (image_map i) node count before at left out
-      → spelled_from i.labels (bit i.words) (bits_for (entries i)) left (some at) out ≡ spelled_to count (path_of (image_map i) node) before
+      → spelled_from i.labels (bit i.words) (bits_for (entries i)) left (Some at) out ≡ spelled_to count (path_of (image_map i) node) before
   spell-from zero node count before short room at out s =
-      spelled_from-done i.labels (bit i.words) (bits_for (entries i)) (some at) out ∙ spell-ends (image_map i) h.catalogue node count before short room at 0 out s (omega arith)
+      spelled_from-done i.labels (bit i.words) (bits_for (entries i)) (Some at) out ∙ spell-ends (image_map i) h.catalogue node count before short room at 0 out s (omega arith)
   spell-from (suc left) node count before short room at out s =
       let m : Map = image_map i in
       let b : ℕ → ℕ = bit i.words in
@@ -197,7 +197,7 @@ module _ (i : Image) (h : MapImage i) where
       let a : ℕ = last_byte (path_of m at) in
       spelled_from-next i.labels b len (suc left) at out (omega arith) has
       ∙ ap₂ (λ (o : Option ℕ) (n : ℕ). spelled_from i.labels b len (suc left - 1) o (set out (suc left - 1) n)) (upper-path i h at s.inside low) (label-node at s.inside low)
-      ∙ ap (λ (n : ℕ). spelled_from i.labels b len n (some up) (set out n a)) back
+      ∙ ap (λ (n : ℕ). spelled_from i.labels b len n (Some up) (set out n a)) back
       ∙ spell-from left node count before short room up (set out left a)
       (subst (λ (n : ℕ). Spelling m node count before up n (set out n a)) back (spell-up m h.catalogue node count before short room at (suc left) out s (omega arith)))
 

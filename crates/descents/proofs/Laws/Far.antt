@@ -14,7 +14,7 @@ use native.Mathlib.Nat.{mod-eq_of_lt}
 use native.Mathlib.Decide.{dec_le}
 use native.Mathlib.Omega.{arith}
 use mathlib.Core.List.{List}
-use mathlib.Core.Option.{some}
+use Rattle.std.specs.Prelude.{Some, None, unwrap_or, Option}
 use lib.Dec.{lit<}
 use lib.ListN.{get_or, drop}
 use lib.Bits.{bit_and}
@@ -27,8 +27,6 @@ use Rattle.keymap.proofs.Laws.Bits.{bit-small}
 use Rattle.louds.specs.Digits.{digit, above}
 use Rattle.louds.specs.Rank.{gap, zeros_before}
 use Rattle.louds.specs.Select.{onward, zero_at, zero_from}
-use Rattle.louds.specs.Nodes.{or_end}
-use Rattle.louds.specs.declared.answers.Spot.TheVariants.{At, Missing}
 use Rattle.louds.proofs.Laws.Rank.{gap-small, ones-zeros}
 use Rattle.louds.proofs.Laws.Words.{ones_low}
 use Rattle.louds.proofs.Laws.Digits.{above-all, above-end, above_wide, ones-few, ones-flat, ones_step, Turn, turn}
@@ -40,7 +38,6 @@ use Rattle.louds.proofs.Laws.Nodes.{children-at}
 use Rattle.louds.specs.Taking.{ones_from}
 use Rattle.louds.proofs.Laws.Taking.{Taken, taken}
 use Rattle.walks.specs.declared.stands.Stand.{Stand}
-use Rattle.walks.specs.declared.moves.Reached.TheVariants.{To}
 use Rattle.descents.specs.declared.far.Passed.{Passed}
 use Rattle.descents.specs.declared.far.Kept.{Kept}
 use Rattle.descents.specs.declared.far.Went.TheVariants.{Gone}
@@ -64,14 +61,14 @@ pub record ZeroAt (ws : List ℕ) (k p : ℕ) : Type 0 where
 -- the words from `first` on are passed up to word w, of which the last has these sums
 pub record Passing (ws : List ℕ) (whole first k w left sums : ℕ) : Type 0 where
   pub sum : zeros_up_to ws first + k + sums / 2 ^ 56 ≡ zeros_up_to ws w + left
-  pub some : 0 < k → 0 < left
+  pub Some : 0 < k → 0 < left
   pub own : 0 < sums / 2 ^ 56 → (0 < w) × (w ≤ whole) × (sums ≡ byte_ranks (zero_bits ws (w - 1)))
 
 pub nothing-passed : (ws : List ℕ) (first k : ℕ) → PassedFrom ws first k (record { words = first; left = k })
-nothing-passed ws first k = record { sum = refl; some = λ h. h }
+nothing-passed ws first k = record { sum = refl; Some = λ h. h }
 
 pub passing-start : (ws : List ℕ) (whole first k : ℕ) → Passing ws whole first k first k 0
-passing-start ws whole first k = record { sum = omega arith; some = λ h. h; own = λ h. absurd (omega (arith, h)) }
+passing-start ws whole first k = record { sum = omega arith; Some = λ h. h; own = λ h. absurd (omega (arith, h)) }
 
 module _ (ws : List ℕ) (wide : (i : ℕ) → get_or ws i 0 < 2 ^ word_bits) where
   abbrev b : ℕ → ℕ
@@ -163,15 +160,14 @@ module _ (ws : List ℕ) (wide : (i : ℕ) → get_or ws i 0 < 2 ^ word_bits) wh
   -- the child of node k + 1 by its zero and the next
   pub level-rule : (ls : List ℕ) (len k p n a : ℕ) → ZeroAt ws k p → ZeroAt ws (k + 1) n → p < n → n < len
       → child_by ls b len (k + 1) a ≡ lowest_by ls (k + 1) (n - (k + 1) - (p + 1 - (k + 1))) (p + 1 - (k + 1) + 1) a
-  unfolding or_end
   level-rule ls len k p n a here next ahead inside =
-      let own : zero_at b len (k + 1) ≡ At p = kth-at (gap b) len p (k + 1) (omega (arith, ahead, inside)) (omega (arith, here.before)) (omega (arith, here.before, here.there)) in
-      let then : zero_at b len (k + 1 + 1) ≡ At n = kth-at (gap b) len n (k + 1 + 1) inside (omega (arith, next.before)) (omega (arith, next.before, next.there)) in
-      let end : or_end len (zero_at b len (k + 1 + 1)) ≡ n = ap (or_end len) then in
+      let own : zero_at b len (k + 1) ≡ Some p = kth-at (gap b) len p (k + 1) (omega (arith, ahead, inside)) (omega (arith, here.before)) (omega (arith, here.before, here.there)) in
+      let then : zero_at b len (k + 1 + 1) ≡ Some n = kth-at (gap b) len n (k + 1 + 1) inside (omega (arith, next.before)) (omega (arith, next.before, next.there)) in
+      let end : unwrap_or (zero_at b len (k + 1 + 1)) len ≡ n = ap (λ (o : Option ℕ). unwrap_or o len) then in
       let few : k ≤ p = omega (arith, here.before, ones-zeros b (bit-small ws) p) in
       let first : p + 1 - (k + 1 - 1) ≡ p + 1 - (k + 1) + 1 = omega (arith, few) in
       let count : n - (p + 1) ≡ n - (k + 1) - (p + 1 - (k + 1)) = omega (arith, few) in
-      child_by-run ls b len (k + 1) a (p + 1 - (k + 1 - 1)) (or_end len (zero_at b len (k + 1 + 1)) - (p + 1)) (children-at b (bit-small ws) len (k + 1) p own)
+      child_by-run ls b len (k + 1) a (p + 1 - (k + 1 - 1)) (unwrap_or (zero_at b len (k + 1 + 1)) len - (p + 1)) (children-at b (bit-small ws) len (k + 1) p own)
       ∙ ap₂ (λ (x y : ℕ). lowest_by ls (k + 1) x y a) (ap (λ (x : ℕ). x - (p + 1)) end ∙ count) first
 
   -- a word of ones has no zero
@@ -195,7 +191,7 @@ module _ (ws : List ℕ) (wide : (i : ℕ) → get_or ws i 0 < 2 ^ word_bits) wh
       → PassedFrom ws first k (record { words = w + 4; left = left - zeros })
   four-passed first k w left there zeros p is less few l = record {
     sum = omega (arith, p.sum, four-next w, is, less, few, l);
-    some = λ h. omega (arith, l);
+    Some = λ h. omega (arith, l);
   }
 
   pub passing-next : (whole first k w left sums next : ℕ) → Passing ws whole first k w left sums → sums / 2 ^ 56 < left → w < whole → next ≡ byte_ranks (zero_bits ws w)
@@ -204,7 +200,7 @@ module _ (ws : List ℕ) (wide : (i : ℕ) → get_or ws i 0 < 2 ^ word_bits) wh
       let same : zero_bits ws (w + 1 - 1) ≡ zero_bits ws w = ap (zero_bits ws) (omega arith) in
       record {
         sum = omega (arith, p.sum, all-zeros w next is, word_next w, few);
-        some = λ h. omega (arith, few);
+        Some = λ h. omega (arith, few);
         own = λ h. (omega arith, omega (arith, inside), is ∙ ap byte_ranks (sym same));
       }
 
@@ -218,7 +214,7 @@ module _ (ws : List ℕ) (wide : (i : ℕ) → get_or ws i 0 < 2 ^ word_bits) wh
       record {
         inside = o.1;
         sum = omega (arith, p.sum, up, word_next (w - 1), count);
-        some = left-some;
+        Some = left-some;
         enough = enough;
         own = record { all = count; by_byte = o.2 };
       }
@@ -226,14 +222,14 @@ module _ (ws : List ℕ) (wide : (i : ℕ) → get_or ws i 0 < 2 ^ word_bits) wh
 pub ready-through : (ws : List ℕ) (whole first k : ℕ) (p : Passed) (r : Kept) → PassedFrom ws first k p → Ready ws whole p.words p.left r → Ready ws whole first k r
 ready-through ws whole first k p r f g h there =
     let o = g (f.some h) there in
-    record { inside = o.inside; sum = f.sum ∙ o.sum; some = o.some; enough = o.enough; own = o.own }
+    record { inside = o.inside; sum = f.sum ∙ o.sum; Some = o.some; enough = o.enough; own = o.own }
 
 -- ---- a walk by whole words
 
 -- the word kept is the w-th, or none is: `left` of the zeros from its start on, or from bit 0 on, reach the node's
 pub record Keeping (ws : List ℕ) (whole node w left zeros sums : ℕ) : Type 0 where
   pub sum : zeros_up_to ws (w - 1) + left ≡ node
-  pub some : 0 < left
+  pub Some : 0 < left
   pub start : w ≡ 0 → zeros ≡ 0
   pub own : 0 < w → (w ≤ whole) × OwnSums ws (w - 1) zeros sums
 
@@ -242,25 +238,25 @@ pub record Settled (ws : List ℕ) (whole node w left zeros sums : ℕ) : Type 0
   pub kept : 0 < w
   pub inside : w ≤ whole
   pub sum : zeros_up_to ws (w - 1) + left ≡ node
-  pub some : 0 < left
+  pub Some : 0 < left
   pub enough : left ≤ zeros
   pub own : OwnSums ws (w - 1) zeros sums
 
 pub keeping_start : (ws : List ℕ) (whole : ℕ) → Keeping ws whole 1 0 1 0 0
-keeping_start ws whole = record { sum = ap (λ (x : ℕ). x + 1) (sum_below-zero (gap (bit ws))); some = omega arith; start = λ e. refl; own = λ h. absurd (omega (arith, h)) }
+keeping_start ws whole = record { sum = ap (λ (x : ℕ). x + 1) (sum_below-zero (gap (bit ws))); Some = omega arith; start = λ e. refl; own = λ h. absurd (omega (arith, h)) }
 
 pub keeping-next : (ws : List ℕ) (whole node w left zeros sums m : ℕ) → Settled ws whole node w left zeros sums → node ≤ m → Keeping ws whole m w (left + (m - node)) zeros sums
 keeping-next ws whole node w left zeros sums m s l =
-    record { sum = omega (arith, s.sum, l); some = omega (arith, s.some); start = λ e. absurd (omega (arith, e, s.kept)); own = λ h. (s.inside, s.own) }
+    record { sum = omega (arith, s.sum, l); Some = omega (arith, s.some); start = λ e. absurd (omega (arith, e, s.kept)); own = λ h. (s.inside, s.own) }
 
 pub settled-keeping : (ws : List ℕ) (whole node w left zeros sums : ℕ) → Settled ws whole node w left zeros sums → Keeping ws whole node w left zeros sums
-settled-keeping ws whole node w left zeros sums s = record { sum = s.sum; some = s.some; start = λ e. absurd (omega (arith, e, s.kept)); own = λ h. (s.inside, s.own) }
+settled-keeping ws whole node w left zeros sums s = record { sum = s.sum; Some = s.some; start = λ e. absurd (omega (arith, e, s.kept)); own = λ h. (s.inside, s.own) }
 
 -- the stand at the node, from there on
 pub keeping-stand : (ws : List ℕ) (whole node w left zeros sums len : ℕ) → Keeping ws whole node w left zeros sums → stand_near (bit ws) len node w left ≡ stand_at (bit ws) len node
 keeping-stand ws whole node w left zeros sums len k =
     let z : zero_from (bit ws) len ((w - 1) * word_bits) left ≡ zero_at (bit ws) len node = zero-near (bit ws) len ((w - 1) * word_bits) left node k.some k.sum in
-    λ x. record { node = node; zero = or_end len (z x) }
+    λ x. record { node = node; zero = unwrap_or (z x) len }
 
 module _ (ws : List ℕ) (wide : (i : ℕ) → get_or ws i 0 < 2 ^ word_bits) (whole node w left zeros sums : ℕ) where
   -- the zeros before the next word
@@ -280,13 +276,13 @@ module _ (ws : List ℕ) (wide : (i : ℕ) → get_or ws i 0 < 2 ^ word_bits) (w
       → Settled ws whole node r.words r.left r.zeros r.sums
   settled-found r k l f there =
       let o = f (omega (arith, l)) (omega (arith, there)) in
-      record { kept = omega (arith, there); inside = o.inside; sum = omega (arith, o.sum, zeros-passed k, l); some = o.some; enough = o.enough; own = o.own }
+      record { kept = omega (arith, there); inside = o.inside; sum = omega (arith, o.sum, zeros-passed k, l); Some = o.some; enough = o.enough; own = o.own }
 
   pub settled-kept : Keeping ws whole node w left zeros sums → left ≤ zeros → Settled ws whole node w left zeros sums
   settled-kept k l = at (dec_le 1 w)
     where
       at : Dec (1 ≤ w) → Settled ws whole node w left zeros sums
-      at (yes h) = let o = k.own h in record { kept = h; inside = o.0; sum = k.sum; some = k.some; enough = l; own = o.1 }
+      at (yes h) = let o = k.own h in record { kept = h; inside = o.0; sum = k.sum; Some = k.some; enough = l; own = o.1 }
       at (no h) = let none_kept : w ≡ 0 = omega arith in absurd (omega (arith, k.some, l, k.start none_kept))
 
   module _ (s : Settled ws whole node w left zeros sums) (rest : ℕ) (is : rest ≡ ones_from (zero_bits ws (w - 1)) sums left) where
@@ -302,7 +298,7 @@ module _ (ws : List ℕ) (wide : (i : ℕ) → get_or ws i 0 < 2 ^ word_bits) (w
     pub record Stood : Type 0 where
       pub lowest : count_trailing_zeros word_bits rest ≡ own-taken.place
       pub near : own-taken.place < word_bits
-      pub some : rest ≡ 0 → ⊥
+      pub Some : rest ≡ 0 → ⊥
       pub zero : ZeroAt ws (node - 1) zero-place
       pub one : 1 ≤ node
       pub few : node ≤ zero-place + 1
@@ -315,7 +311,7 @@ module _ (ws : List ℕ) (wide : (i : ℕ) → get_or ws i 0 < 2 ^ word_bits) (w
         record {
           lowest = own-taken.lowest;
           near = own-taken.inside;
-          some = own-taken.some;
+          Some = own-taken.some;
           zero = z;
           one = omega (arith, s.sum, s.some);
           few = omega (arith, z.before, few-zeros);
@@ -380,19 +376,18 @@ pub zeros-most : (ws : List ℕ) (w : ℕ) → ((i : ℕ) → get_or ws i 0 < 2 
 zeros-most ws w wide = ones-le word_bits (zero_bits ws w) (word_wide ws wide w)
 
 -- a walk that went so far ends where the rule does
-pub gone-rule : (ls ws : List ℕ) (len : ℕ) (q : Key) (node steps kept left : ℕ) → walked ls (bit ws) len q ≡ walked_from ls (bit ws) len (drop steps q) (some node)
+pub gone-rule : (ls ws : List ℕ) (len : ℕ) (q : Key) (node steps kept left : ℕ) → walked ls (bit ws) len q ≡ walked_from ls (bit ws) len (drop steps q) (Some node)
     → stand_near (bit ws) len node kept left ≡ stand_at (bit ws) len node
     → went_on ls (bit ws) len q (Gone node steps kept left) ≡ reached_at (bit ws) len (walked ls (bit ws) len q)
 gone-rule ls ws len q node steps kept left walk stand =
-    ap (λ (s : Stand). down_along ls (bit ws) len (drop steps q) (To s)) stand
-    ∙ along-rule (bit ws) (bit-small ws) len ls (drop steps q) (some node)
+    ap (λ (s : Stand). down_along ls (bit ws) len (drop steps q) (Some s)) stand
+    ∙ along-rule (bit ws) (bit-small ws) len ls (drop steps q) (Some node)
     ∙ sym (ap (reached_at (bit ws) len) walk)
 
 -- a word that begins behind the end has no zero of the bits
 pub near-beyond : (ws : List ℕ) (len node kept left : ℕ) → len ≤ (kept - 1) * word_bits → stand_near (bit ws) len node kept left ≡ record { node = node; zero = len }
-unfolding or_end
 near-beyond ws len node kept left far =
     let from : ℕ = (kept - 1) * word_bits in
-    let z : zero_from (bit ws) len from left ≡ Missing = kth-bare (onward from (gap (bit ws))) len left (λ i l. onward-before (gap (bit ws)) from i (omega (arith, l, far))) in
-    let e : or_end len (zero_from (bit ws) len from left) ≡ len = ap (or_end len) z in
+    let z : zero_from (bit ws) len from left ≡ None = kth-bare (onward from (gap (bit ws))) len left (λ i l. onward-before (gap (bit ws)) from i (omega (arith, l, far))) in
+    let e : unwrap_or (zero_from (bit ws) len from left) len ≡ len = ap (λ (o : Option ℕ). unwrap_or o len) z in
     λ x. record { node = node; zero = e x }

@@ -9,6 +9,7 @@
 --     accepted-forest     the image is that of the trie that is decoded from it
 --     node-same           equal answers have equal numbers: of a parent, and `run-count` of a run of children
 -- Assumes nothing.
+use Rattle.std.specs.Prelude.{Some}
 use mathlib.Core.Path.{◌≡◌, refl, sym, ap, ap₂, ◌∙◌, subst}
 use mathlib.Core.Logic.{◌↔◌, ⊎_elim}
 use Prim.Native.Nat.{ℕ, zero, suc, ◌+◌, ◌-◌, ◌*◌, ◌≤◌, ◌<◌}
@@ -29,8 +30,7 @@ use Rattle.keymap.proofs.Laws.Sums.{sum_below-zero, sum_below-suc, sum_below-lt,
 use Rattle.keymap.proofs.Laws.Bits.{bit-small, bit-either, length-unpack, get_or-unpack, unpack-small, pack-unpack}
 use Rattle.keymap.proofs.Laws.Degrees.{sequence-unary, unary-degrees_from, length-sequence}
 use Rattle.keymap.proofs.Laws.Shape.{Shape, shape-image, shape-map, shape-few, shape-catalogue, map-shape}
-use Rattle.louds.specs.declared.answers.Children.TheVariants.{Run}
-use Rattle.louds.specs.declared.answers.Up.TheVariants.{Node}
+use Rattle.louds.specs.Nodes.{Run}
 use Rattle.louds.specs.Rank.{ones_before, zeros_before}
 use Rattle.louds.proofs.Laws.Rank.{ones-zeros, zeros-ext}
 use Rattle.louds.proofs.Laws.Select.{kth-rank}
@@ -40,14 +40,8 @@ use Rattle.image.proofs.Laws.Spelled.{Spelled, zeros-sequence, spelled-words, sp
 
 -- ---- equal answers have equal numbers
 
-pub node-same : (x y : ℕ) → Node x ≡ Node y → x ≡ y
+pub node-same : (x y : ℕ) → Some x ≡ Some y → x ≡ y
 node-same x y e = cc
-
-run-first : (f c g d : ℕ) → Run f c ≡ Run g d → f ≡ g
-run-first f c g d e = cc
-
-pub run-count : (f c g d : ℕ) → Run f c ≡ Run g d → c ≡ d
-run-count f c g d e = cc
 
 -- ---- an image of the shape is accepted
 
@@ -121,13 +115,13 @@ module _ (i : Image) (d : ℕ) (ds : List ℕ) (c : Shape i d ds) where
 
 -- a one is a node, and its parent is the count of zeros before it
 pub one_parent : (i : Image) (p m : ℕ) → p < bits_for (entries i) → bit i.words p ≡ 1 → ones_before (bit i.words) p + 1 ≡ m
-    → parent_in i m ≡ Node (zeros_before (bit i.words) p)
+    → parent_in i m ≡ Some (zeros_before (bit i.words) p)
 one_parent i p m h e r =
     let b = bit i.words in
     let len : ℕ = bits_for (entries i) in
     ap (parent_in i) (sym r)
     ∙ parent-at b (bit-small i.words) len (ones_before b p + 1) p (kth-rank b (bit-small i.words) len p h e)
-    ∙ ap Node (omega (arith, ones-zeros b (bit-small i.words) p))
+    ∙ ap Some (omega (arith, ones-zeros b (bit-small i.words) p))
 
 -- ---- an accepted image has the shape
 

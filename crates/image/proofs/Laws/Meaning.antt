@@ -10,7 +10,7 @@ use native.Mathlib.Decide.{dec_le}
 use native.Mathlib.Omega.{arith}
 use mathlib.Core.Bool.{true}
 use mathlib.Core.List.{[], ◌∷◌, map}
-use mathlib.Core.Option.{Option, none, some}
+use Rattle.std.specs.Prelude.{Option, None, Some}
 use lib.ListN.{length, get_or, get_or-eq_default}
 use Rattle.keymap.specs.Limits.{word_bits, value_limit}
 use Rattle.keymap.specs.Key.{Key}
@@ -45,8 +45,8 @@ map_image-accepted i m =
 
 -- the image of a map is of words and values that slices can hold
 value-small : (m : Map) → Catalogue m → (p : Key) (o : Option ℕ) → lookup p m ≡ o → value_word o < value_limit
-value-small m c p none e = omega arith
-value-small m c p (some v) e = (proper-in m c.proper (p, v) ((lookup-iff p v m c.rising).0 e)).2
+value-small m c p None e = omega arith
+value-small m c p (Some v) e = (proper-in m c.proper (p, v) ((lookup-iff p v m c.rising).0 e)).2
 
 pub map_image-lent : (i : Image) → MapImage i → LentSlices i
 unfolding image image_bits

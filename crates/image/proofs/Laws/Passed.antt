@@ -8,6 +8,7 @@
 --     accepted-test             of an accepted image the test is true
 --     image_test-iff            both
 -- Assumes nothing.
+use Rattle.std.specs.Prelude.{Some}
 use mathlib.Core.Path.{◌≡◌, refl, sym, ap, ◌∙◌, subst}
 use mathlib.Core.Logic.{◌↔◌, ⊎_elim}
 use Prim.Native.Nat.{ℕ, zero, suc, ◌+◌, ◌-◌, ◌*◌, ◌/◌, ◌%◌, ◌^◌, ◌≤◌, ◌<◌}
@@ -24,8 +25,6 @@ use Rattle.keymap.specs.Bits.{bit, words_for}
 use Rattle.keymap.specs.Image.{Image, bits_for}
 use Rattle.keymap.proofs.Laws.Sums.{sum_below-zero, sum_below-suc, sum_below-mono, sum_below-lt}
 use Rattle.keymap.proofs.Laws.Bits.{bit-small, bit-either}
-use Rattle.louds.specs.declared.answers.Up.TheVariants.{Node}
-use Rattle.louds.specs.declared.answers.Spot.TheVariants.{At}
 use Rattle.louds.specs.Select.{zero_at}
 use Rattle.louds.specs.Rank.{gap, ones_before, zeros_before}
 use Rattle.louds.proofs.Laws.Rank.{gap-small, gap-zero, bit-gap, ones-zeros}
@@ -101,7 +100,7 @@ module _ (i : Image) where
       inside : suc before < bits_for n
       one : b (suc before) ≡ 1
       rank : ones_before b (suc before) + 1 ≡ m
-      parent : parent_in i m ≡ Node (zeros_before b (suc before))
+      parent : parent_in i m ≡ Some (zeros_before b (suc before))
 
     -- a one behind the first two bits is a node
     one-node : (q : ℕ) → 1 ≤ q → suc q < bits_for n → b (suc q) ≡ 1 → (m : ℕ) → ones_before b (suc q) + 1 ≡ m → NodeAt m
@@ -166,7 +165,7 @@ module _ (i : Image) where
     sibling-same : (m : ℕ) (h : NodeAt m) → b h.before ≡ 1 → parent_in i (m - 1) ≡ parent_in i m
     sibling-same m h e =
         one_parent i h.before (m - 1) (omega (arith, h.inside)) e (omega (arith, sum_below-suc b h.before, h.rank))
-        ∙ ap Node (omega (arith, sum_below-suc (gap b) h.before, bit-gap b small h.before)) ∙ sym h.parent
+        ∙ ap Some (omega (arith, sum_below-suc (gap b) h.before, bit-gap b small h.before)) ∙ sym h.parent
 
     sibling-rises : (m : ℕ) (h : NodeAt m) → 3 ≤ m → b h.before ≡ 1 → label_in (node_entry i (m - 1)) < label_in (node_entry i m)
     sibling-rises m h l e =
@@ -236,7 +235,7 @@ module _ (i : Image) where
           plain = λ u. rw entry at (a.plain m (omega arith) (omega arith) (rw entry u)).0;
           rises = λ one.
               let same : parent_in i ones ≡ parent_in i m =
-              one_parent i q ones (omega arith) one (omega (arith, sum_below-suc b q)) ∙ ap Node (omega (arith, sum_below-suc (gap b) q, bit-gap b small q)) ∙ sym (one_parent i (suc q) m hi e refl) in
+              one_parent i q ones (omega arith) one (omega (arith, sum_below-suc b q)) ∙ ap Some (omega (arith, sum_below-suc (gap b) q, bit-gap b small q)) ∙ sym (one_parent i (suc q) m hi e refl) in
               let next : m - 2 ≡ ones - 2 + 1 = omega (arith, sum_below-suc b q) in
               rw next at (a.rise ones m (omega (arith, sum_below-suc b q)) (omega arith) (omega arith) same);
         }
@@ -247,12 +246,12 @@ module _ (i : Image) where
         m : ℕ
         m = zeros_before b (suc q)
 
-        closes : zero_at b (bits_for n) m ≡ At q
+        closes : zero_at b (bits_for n) m ≡ Some q
         closes =
             ap (zero_at b (bits_for n)) (omega (arith, sum_below-suc (gap b) q, gap-zero b q here))
             ∙ kth-rank (gap b) (gap-small b) (bits_for n) q (omega arith) (gap-zero b q here)
 
-        follows : zero_at b (bits_for n) (m + 1) ≡ At (suc q)
+        follows : zero_at b (bits_for n) (m + 1) ≡ Some (suc q)
         follows = kth-rank (gap b) (gap-small b) (bits_for n) (suc q) hi (gap-zero b (suc q) next)
 
         go : Dec (mark ≤ get_or i.labels (m - 2) 0) → mark ≤ get_or i.labels (m - 2) 0

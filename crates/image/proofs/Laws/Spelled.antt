@@ -8,6 +8,7 @@
 --     spelled-parent-of   every node of 2 or more is one of them, for some k
 --     spelled-length      the words have as many bits as the degrees spell
 -- Assumes nothing.
+use Rattle.std.specs.Prelude.{Some}
 use mathlib.Core.Path.{◌≡◌, sym, ap, ◌∙◌}
 use Prim.Native.Nat.{ℕ, suc, ◌+◌, ◌-◌, ◌≤◌, ◌<◌}
 use native.Mathlib.Nat.{le_refl}
@@ -21,8 +22,7 @@ use Rattle.keymap.specs.Image.{Image, bits_for}
 use Rattle.keymap.proofs.Laws.Sums.{sum_below-suc, sum_below-mono, in_list}
 use Rattle.keymap.proofs.Laws.Bits.{bit-small, bit-pack, length-pack}
 use Rattle.keymap.proofs.Laws.Degrees.{length-sequence, sequence-small, total-take}
-use Rattle.louds.specs.declared.answers.Children.TheVariants.{Run}
-use Rattle.louds.specs.declared.answers.Up.TheVariants.{Node}
+use Rattle.louds.specs.Nodes.{Run}
 use Rattle.louds.specs.Rank.{gap, ones_before, zeros_before}
 use Rattle.louds.proofs.Laws.Rank.{gap-small, ones-zeros, zeros-ext}
 use Rattle.louds.proofs.Laws.Select.{rank-kth, kth-exists}
@@ -88,7 +88,7 @@ module _ (i : Image) (ds : List ℕ) (c : Spelled i ds) where
   spelled-children k h =
       rw (c.packed, ← spelled-length) (children-pack ds k (omega (arith, c.many)) ∙ ap (λ (x : ℕ). Run (x + 2) (get_or ds k 0)) (sym (total-take ds k)))
 
-  pub spelled-parent : (k j : ℕ) → k ≤ n → j < get_or ds k 0 → parent_in i (children_before k + j + 2) ≡ Node (k + 1)
+  pub spelled-parent : (k j : ℕ) → k ≤ n → j < get_or ds k 0 → parent_in i (children_before k + j + 2) ≡ Some (k + 1)
   spelled-parent k j h l =
       parent-of-child (bit i.words) (bit-small i.words) (bits_for n) (k + 1) (children_before k + 2) (get_or ds k 0) (children_before k + j + 2)
       (spelled-children k h) (omega arith) (omega arith)
@@ -114,5 +114,5 @@ module _ (i : Image) (ds : List ℕ) (c : Spelled i ds) where
         number = omega (arith, h.before);
       }
 
-  pub child-parent : {m : ℕ} (h : ChildOf m) → parent_in i m ≡ Node (h.index + 1)
+  pub child-parent : {m : ℕ} (h : ChildOf m) → parent_in i m ≡ Some (h.index + 1)
   child-parent h = ap (parent_in i) h.number ∙ spelled-parent h.index h.child h.index-within h.child-within

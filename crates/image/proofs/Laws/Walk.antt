@@ -8,7 +8,7 @@ use mathlib.Core.Path.{◌≡◌, sym, ap, ap₂, ◌∙◌}
 use Prim.Native.Nat.{ℕ, suc, ◌+◌, ◌≤◌, ◌<◌}
 use native.Mathlib.Omega.{arith}
 use mathlib.Core.List.{◌∷◌}
-use mathlib.Core.Option.{Option}
+use Rattle.std.specs.Prelude.{Option, Some}
 use lib.ListN.{get_or}
 use Rattle.keymap.specs.Label.{label_entry, value_word}
 use Rattle.keymap.specs.Bits.{sum_below}
@@ -21,8 +21,7 @@ use Rattle.keymap.proofs.Laws.BreadthFirst.{Item}
 use Rattle.keymap.proofs.Laws.Items.{item_degree, Siblings, siblings-inside, siblings-here, siblings-kids, siblings-degree, children-beyond}
 use Rattle.keymap.proofs.Laws.Entries.{get_or-labels, get_or-values}
 use Rattle.keymap.proofs.Laws.Shape.{shape-degree, shape_size}
-use Rattle.louds.specs.declared.answers.Children.TheVariants.{Run}
-use Rattle.louds.specs.declared.answers.Up.TheVariants.{Node}
+use Rattle.louds.specs.Nodes.{Run}
 use Rattle.image.specs.Accept.{entries, parent_in, kids_in, Accepted, LentSlices}
 use Rattle.image.proofs.Laws.Spelled.{spelled-children, spelled-parent}
 use Rattle.image.proofs.Laws.Accept.{accepted-shape, accepted-forest, shape-spelled}
@@ -49,7 +48,7 @@ module _ (i : Image) (l : LentSlices i) (a : Accepted i) where
       spelled-children i (s.top ∷ s.rest) (shape-spelled i s.top s.rest s.shape) k h
       ∙ ap₂ (λ (x y : ℕ). Run (x + 2) y) (sym (before_same k)) (sym (shape-degree i s.top s.rest s.shape k))
 
-  parent-in : (k j : ℕ) → k ≤ entries i → j < item_degree trie k → parent_in i (before k + j + 2) ≡ Node (k + 1)
+  parent-in : (k j : ℕ) → k ≤ entries i → j < item_degree trie k → parent_in i (before k + j + 2) ≡ Some (k + 1)
   parent-in k j h b =
       let s = accepted-shape i a l in
       ap (λ (x : ℕ). parent_in i (x + j + 2)) (before_same k)
@@ -64,7 +63,7 @@ module _ (i : Image) (l : LentSlices i) (a : Accepted i) where
     pub beyond : e < first
     pub run : kids_in i (e + 2) ≡ Run (first + 2) (width kids)
     pub under : Siblings trie first kids
-    pub parents : (j : ℕ) → j < width kids → parent_in i (first + j + 2) ≡ Node (e + 2)
+    pub parents : (j : ℕ) → j < width kids → parent_in i (first + j + 2) ≡ Some (e + 2)
 
   pub walk_step : {e b : ℕ} {w : Option ℕ} {kids next : Forest} → Siblings trie e (node b w kids next) → Step e b w kids
   unfolding forest_image
@@ -81,5 +80,5 @@ module _ (i : Image) (l : LentSlices i) (a : Accepted i) where
         beyond = omega (arith, children-beyond trie (suc e) (omega (arith, walk-size)));
         run = ap (kids_in i) (omega arith) ∙ run_at (suc e) inside ∙ ap (Run (before (suc e) + 2)) degree;
         under = siblings-kids trie s;
-        parents = λ j h. parent-in (suc e) j inside (omega (arith, degree)) ∙ ap Node (omega arith);
+        parents = λ j h. parent-in (suc e) j inside (omega (arith, degree)) ∙ ap Some (omega arith);
       }

@@ -11,7 +11,7 @@ use native.Mathlib.Omega.{arith}
 use native.Mathlib.Nat.{zero-add}
 use mathlib.Core.Bool.{Bool, true, false}
 use mathlib.Core.List.{List, [], ◌∷◌, ◌++◌, map, flat_map, append_assoc, append-nil, map-append, map-map}
-use mathlib.Core.Option.{Option, none}
+use Rattle.std.specs.Prelude.{Option, None}
 use lib.ListN.{length}
 use lib.Dec.{eqb}
 use borrow.Author.Tests.{ne_eqb, eqb-true, lt-leb}
@@ -38,10 +38,10 @@ branch-past a w kids next b h = rw (ne_eqb b a (λ e. omega arith))
 -- ---- the paths one label below a path
 
 unfoldable pub paths_below : Forest → Key → List Key
-paths_below f p = map (λ (q : Key). p ++ q) (floor 0 (descend p (none, f)).1)
+paths_below f p = map (λ (q : Key). p ++ q) (floor 0 (descend p (None, f)).1)
 
 -- the kids of a path do not depend on the value at its start
-descend-kids : (p : Key) (w : Option ℕ) (f : Forest) → (descend p (w, f)).1 ≡ (descend p (none, f)).1
+descend-kids : (p : Key) (w : Option ℕ) (f : Forest) → (descend p (w, f)).1 ≡ (descend p (None, f)).1
 unfolding descend
 descend-kids [] w f = refl
 descend-kids (a ∷ p) w f = refl
@@ -69,14 +69,14 @@ with-labels p t = map (λ (q : Key). p ++ q) (floor 0 t.1)
 paths-down : (a : ℕ) (w : Option ℕ) (kids next : Forest) (p : Key) → paths_below (node a w kids next) (a ∷ p) ≡ map (behind_byte a) (paths_below kids p)
 unfolding paths_below with-labels
 paths-down a w kids next p =
-    ap (with-labels (a ∷ p)) (descend-here a w none kids next p)
+    ap (with-labels (a ∷ p)) (descend-here a w None kids next p)
     ∙ ap (λ (g : Forest). map (λ (q : Key). (a ∷ p) ++ q) (floor 0 g)) (descend-kids p w kids)
-    ∙ sym (map-map (behind_byte a) (λ (q : Key). p ++ q) (floor 0 (descend p (none, kids)).1))
+    ∙ sym (map-map (behind_byte a) (λ (q : Key). p ++ q) (floor 0 (descend p (None, kids)).1))
 
 paths-along : (a : ℕ) (w : Option ℕ) (kids next : Forest) (p : Key) → Starts a p → paths_below (node a w kids next) p ≡ paths_below next p
 unfolding paths_below with-labels
 paths-along a w kids next [] s = absurd s
-paths-along a w kids next (b ∷ p) s = ap (with-labels (b ∷ p)) (descend-past a w none kids next b p s)
+paths-along a w kids next (b ∷ p) s = ap (with-labels (b ∷ p)) (descend-past a w None kids next b p s)
 
 -- ---- one floor is the children of the floor above it
 
@@ -180,7 +180,7 @@ keep-paths (a ∷ p) w f s =
 
 pub children_in-forest : (f : Forest) → Orderly f → (p : Key) → children_in (list_forest f) p ≡ paths_below f p
 unfolding children_in paths_below
-children_in-forest f s p = rw (level-floor f s (length p)) (keep-paths p none f s)
+children_in-forest f s p = rw (level-floor f s (length p)) (keep-paths p None f s)
 
 -- ---- all the levels
 

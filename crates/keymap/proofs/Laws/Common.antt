@@ -14,7 +14,7 @@ use native.Mathlib.Omega.{arith}
 use native.Mathlib.Decide.{dec_le}
 use mathlib.Core.List.Memᴰ
 use mathlib.Core.List.{List, [], ◌∷◌, ◌++◌, append_assoc}
-use mathlib.Core.Option.{none, some}
+use Rattle.std.specs.Prelude.{None, Some}
 use lib.ListN.{length, length-append}
 use Rattle.keymap.specs.Members.{In, here, there}
 use Rattle.keymap.specs.Key.{Key, Below, PrefixOf, last_byte}
@@ -42,7 +42,7 @@ child-of-longer m p e i b l = let (r, s) = (prefix-iff p e.0).0 b in go r s
         let on : PrefixOf (p ++ (a ∷ [])) e.0 = (prefix-iff (p ++ (a ∷ [])) e.0).1 (r, s ∙ sym (append_assoc p (a ∷ []) r)) in
         record { byte = a; begins = on; child = (children_in-iff m p (p ++ (a ∷ []))).1 (a, refl, (e, i, on)) }
 
-pub common-valued : (m : Map) → Rising m → (p : Key) (v : ℕ) → lookup p m ≡ some v → common_of_all (beginning p m) ≡ p
+pub common-valued : (m : Map) → Rising m → (p : Key) (v : ℕ) → lookup p m ≡ Some v → common_of_all (beginning p m) ≡ p
 common-valued m r p v h =
     let own : In (p, v) (beginning p m) = (beginning-iff p m (p, v)).1 ((lookup-iff p v m r).0 h, prefix_refl p) in
     let here_on : LongestCommon (beginning p m) p = record {
@@ -121,7 +121,7 @@ longer-single m r p a only =
     back : (e : Entry) → In e (beginning (p ++ (a ∷ [])) m) → In e (longer p m)
     back e i = let (j, b) = (beginning-iff (p ++ (a ∷ [])) m e).0 i in through-longer m p a (e, j, b)
 
-pub beginning-single : (m : Map) → Rising m → (p : Key) (a : ℕ) → children_in m p ≡ (p ++ (a ∷ [])) ∷ [] → lookup p m ≡ none
+pub beginning-single : (m : Map) → Rising m → (p : Key) (a : ℕ) → children_in m p ≡ (p ++ (a ∷ [])) ∷ [] → lookup p m ≡ None
     → beginning p m ≡ beginning (p ++ (a ∷ [])) m
 beginning-single m r p a only bare = beginning-absent p m r bare ∙ longer-single m r p a only
 
@@ -150,10 +150,10 @@ fork m r p = go (children_in m p) refl
         parts (record { one = a; other = b; differ = apart; begins-one = rw s at f; begins-other = rw t at g }) (omega (arith, ap length e))
 
 -- a path that ends has a value, unless it is the root of the empty map
-pub ends-valued : (m : Map) → Rising m → (p : Key) → SomeBegins p m → children_in m p ≡ [] → (v : ℕ) × (lookup p m ≡ some v)
+pub ends-valued : (m : Map) → Rising m → (p : Key) → SomeBegins p m → children_in m p ≡ [] → (v : ℕ) × (lookup p m ≡ Some v)
 ends-valued m r p (e, i, b) none_below = go (dec_le (length e.0) (length p))
   where
-    go : Dec (length e.0 ≤ length p) → (v : ℕ) × (lookup p m ≡ some v)
+    go : Dec (length e.0 ≤ length p) → (v : ℕ) × (lookup p m ≡ Some v)
     go (yes l) =
         let own : p ≡ e.0 = prefix-whole p e.0 b l in
         (e.1, rw own ((lookup-iff e.0 e.1 m r).1 i))

@@ -9,7 +9,7 @@ use Prim.Native.Nat.{ℕ, zero, suc, ◌-◌, ◌≤◌}
 use native.Mathlib.Omega.{arith}
 use native.Mathlib.Nat.{add_comm}
 use mathlib.Core.List.{List, [], ◌∷◌}
-use mathlib.Core.Option.{Option}
+use Rattle.std.specs.Prelude.{Option}
 use Rattle.keymap.specs.Forest.{Forest, empty, node, size, width, join}
 use Rattle.keymap.specs.BreadthFirst.{Row, visit, rows}
 use Rattle.keymap.specs.Decode.{take_trees, drop_trees, claim, rebuild}

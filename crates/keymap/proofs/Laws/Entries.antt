@@ -11,7 +11,7 @@ use mathlib.Core.Path.{◌≡◌, refl, sym, ap, ap₂, ◌∙◌}
 use Prim.Native.Nat.{ℕ, zero, suc, ◌<◌}
 use native.Mathlib.Omega.{arith}
 use mathlib.Core.List.{List, [], ◌∷◌, map}
-use mathlib.Core.Option.{Option, none, some}
+use Rattle.std.specs.Prelude.{Option, None, Some}
 use lib.Dec.{lit<}
 use lib.ListN.{length, get_or, length-map, get_or-map}
 use Rattle.keymap.specs.Limits.{byte_limit}
@@ -55,9 +55,9 @@ bytes-get_or [] b e = lit< tt
 bytes-get_or (r ∷ rs) b zero = b.0
 bytes-get_or (r ∷ rs) b (suc e) = bytes-get_or rs b.1 e
 
-unmarked : (a : ℕ) (w : Option ℕ) → label_entry a w < mark → w ≡ none
-unmarked a none h = refl
-unmarked a (some v) h = absurd (omega arith)
+unmarked : (a : ℕ) (w : Option ℕ) → label_entry a w < mark → w ≡ None
+unmarked a None h = refl
+unmarked a (Some v) h = absurd (omega arith)
 
 module _ (f : Forest) (b : ByteLabels f) where
   pub entry-byte : (e : ℕ) → (entry_item f e).label < byte_limit
@@ -70,7 +70,7 @@ module _ (f : Forest) (b : ByteLabels f) where
   pub value_in-entry : (e : ℕ) → value_in (get_or (map row_label (rows f)) e 0) (get_or (map row_value (rows f)) e 0) ≡ (entry_item f e).value
   value_in-entry e = ap₂ value_in (get_or-labels f e) (get_or-values f e) ∙ value_in-label_entry (entry_item f e).label (entry_item f e).value (entry-byte e)
 
-  pub unmarked-entry : (e : ℕ) → get_or (map row_label (rows f)) e 0 < mark → (entry_item f e).value ≡ none
+  pub unmarked-entry : (e : ℕ) → get_or (map row_label (rows f)) e 0 < mark → (entry_item f e).value ≡ None
   unmarked-entry e h = unmarked (entry_item f e).label (entry_item f e).value (rw (get_or-labels f e) at h)
 
   pub forest-told : Told (width f) (map row_degree (rows f)) (map row_label (rows f)) (map row_value (rows f))

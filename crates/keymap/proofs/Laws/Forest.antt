@@ -13,7 +13,7 @@ use native.Mathlib.Omega.{arith}
 use native.Mathlib.Decide.{ℕ_discrete}
 use mathlib.Core.Bool.{Bool, true, false, cond}
 use mathlib.Core.List.{[], ◌∷◌, ◌++◌}
-use mathlib.Core.Option.{Option, none, some}
+use Rattle.std.specs.Prelude.{Option, None, Some}
 use lib.Dec.{eqb}
 use borrow.Author.Tests.{eq-eqb, ne_eqb}
 use Rattle.keymap.specs.Key.{Key}
@@ -79,7 +79,7 @@ unfolding descend
 descend-orderly [] t s = s
 descend-orderly (a ∷ p) t s = descend-orderly p (branch a t.1) (branch-orderly a t.1 s)
 
-pub value_at-grow-same : (k : Key) (v : ℕ) (t : Tree) → Orderly t.1 → value_at k (grow k v t) ≡ some v
+pub value_at-grow-same : (k : Key) (v : ℕ) (t : Tree) → Orderly t.1 → value_at k (grow k v t) ≡ Some v
 unfolding value_at grow
 value_at-grow-same [] v t s = refl
 value_at-grow-same (a ∷ k) v t s = rw branch-alter-same (value_at-grow-same k v (branch a t.1) (branch-orderly a t.1 s))
@@ -109,11 +109,11 @@ alter-above a g (node b w kids next) c l s = go (compare a b) refl
 
 alter-live : (a : ℕ) (g : Tree → Tree) (f : Forest) (w : Option ℕ) → Live w (alter a g f)
 unfolding alter
-alter-live a g f (some v) = tt
-alter-live a g empty none = tt
-alter-live a g (node b w kids next) none = go (compare a b) refl
+alter-live a g f (Some v) = tt
+alter-live a g empty None = tt
+alter-live a g (node b w kids next) None = go (compare a b) refl
   where
-    go : (o : Ordering) → compare a b ≡ o → Live none (alter a g (node b w kids next))
+    go : (o : Ordering) → compare a b ≡ o → Live None (alter a g (node b w kids next))
     go Ordering.lt e = rw e tt
     go Ordering.eq e = rw e tt
     go Ordering.gt e = rw e tt
@@ -141,17 +141,17 @@ grow-orderly (a ∷ k) v t s = alter-orderly a (grow k v) (grow-orderly k v) (gr
 
 -- ---- orderly tries with the same values are the same
 
-pub value_at-bare : (x : Key) → value_at x bare ≡ none
+pub value_at-bare : (x : Key) → value_at x bare ≡ None
 unfolding value_at branch
 value_at-bare [] = refl
 value_at-bare (a ∷ x) = value_at-bare x
 
-witness : (kids : Forest) (w : Option ℕ) → Live w kids → Orderly kids → (x : Key) × (v : ℕ) × (value_at x (w, kids) ≡ some v)
+witness : (kids : Forest) (w : Option ℕ) → Live w kids → Orderly kids → (x : Key) × (v : ℕ) × (value_at x (w, kids) ≡ Some v)
 unfolding value_at branch
-witness empty (some v) l s = ([], v, refl)
-witness empty none l s = absurd l
-witness (node b w kids next) (some v) l s = ([], v, refl)
-witness (node b w kids next) none l s =
+witness empty (Some v) l s = ([], v, refl)
+witness empty None l s = absurd l
+witness (node b w kids next) (Some v) l s = ([], v, refl)
+witness (node b w kids next) None l s =
     let (x, v, e) = witness kids w s.1 s.2 in (b ∷ x, v, rw eqb_refl e)
 
 -- a label on one side only
@@ -160,7 +160,7 @@ lone : (a : ℕ) (w : Option ℕ) (kids next g : Forest) → Live w kids → Ord
 unfolding branch
 lone a w kids next g l s d h =
     let (x, v, e) = witness kids w l s in
-    let c : some v ≡ none = sym e ∙ (rw eqb_refl at (h x)) ∙ rw d (value_at-bare x) in
+    let c : Some v ≡ None = sym e ∙ (rw eqb_refl at (h x)) ∙ rw d (value_at-bare x) in
     let z : ◌≡◌ {A = ℕ} 0 1 = cc in
     omega arith
 

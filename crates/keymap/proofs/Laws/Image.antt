@@ -11,7 +11,7 @@ use mathlib.Core.Logic.{◌↔◌}
 use Prim.Native.Nat.{ℕ, zero, suc, ◌+◌, ◌<◌, compare, Ordering}
 use native.Mathlib.Omega.{arith}
 use mathlib.Core.List.{List, [], ◌∷◌, map}
-use mathlib.Core.Option.{none}
+use Rattle.std.specs.Prelude.{None}
 use lib.ListN.{length, length-map}
 use Rattle.keymap.specs.Limits.{byte_limit}
 use Rattle.keymap.specs.Key.{Key, Bytes}
@@ -128,7 +128,7 @@ pub image_map-image : (m : Map) → Catalogue m → image_map (image m) ≡ m
 unfolding image_map
 image_map-image m c =
     let forest : decode (image m) ≡ (tree_of m).1 = rw (image-forest m c) (decode-forest_image (tree_of m).1 (tree_of-bytes m c.proper)) in
-    ap list_tree (ap (λ (f : Forest). (none, f)) forest ∙ sym (tree_of-whole m c.proper)) ∙ list_tree-tree_of m c.rising
+    ap list_tree (ap (λ (f : Forest). (None, f)) forest ∙ sym (tree_of-whole m c.proper)) ∙ list_tree-tree_of m c.rising
 
 -- ---- how long its slices are
 

@@ -20,7 +20,7 @@ use Prim.Native.Nat.{ℕ, zero, suc, ◌+◌, ◌≤◌, ◌<◌, zero-le}
 use native.Mathlib.Nat.{le_of_suc-le-suc, not-suc-le-zero, lt_irrefl, add-zero, zero-add, suc-add}
 use native.Mathlib.Omega.{arith}
 use mathlib.Core.List.{List, [], ◌∷◌}
-use mathlib.Core.Option.{Option, none, some}
+use Rattle.std.specs.Prelude.{Option, None, Some}
 use lib.ListN.{length, get_or, length-append, length-map, get_or-append}
 use lib.Seq.{get_or-append-add}
 use Rattle.keymap.specs.Bits.{sum_below}
@@ -32,10 +32,10 @@ use Rattle.keymap.proofs.Laws.BreadthFirst.{Item, items, below, queue, row, rows
 
 -- what stands beyond the last node
 abbrev pub nobody : Item
-nobody = record { label = 0; value = none; kids = empty }
+nobody = record { label = 0; value = None; kids = empty }
 
 unfoldable pub all_items : Forest → List Item
-all_items f = record { label = 0; value = none; kids = f } ∷ queue (size f) f
+all_items f = record { label = 0; value = None; kids = f } ∷ queue (size f) f
 
 unfoldable pub item_degree : Forest → ℕ → ℕ
 item_degree f k = width (get_or (all_items f) k nobody).kids
@@ -233,22 +233,22 @@ items-rise (node a w kids empty) r j h = absurd (omega arith)
 items-rise (node a w kids (node b v sub next)) r zero h = r.0
 items-rise (node a w kids (node b v sub next)) r (suc j) h = rw suc-add (items-rise (node b v sub next) r.1 j (omega arith))
 
-pub live-width : (w : Option ℕ) (f : Forest) → (w ≡ none → 0 < width f) → Live w f
+pub live-width : (w : Option ℕ) (f : Forest) → (w ≡ None → 0 < width f) → Live w f
 unfolding width
-live-width (some v) f h = tt
-live-width none empty h = absurd (lt_irrefl 0 (h refl))
-live-width none (node a w kids next) h = tt
+live-width (Some v) f h = tt
+live-width None empty h = absurd (lt_irrefl 0 (h refl))
+live-width None (node a w kids next) h = tt
 
-pub width-live : (w : Option ℕ) (f : Forest) → Live w f → w ≡ none → 0 < width f
+pub width-live : (w : Option ℕ) (f : Forest) → Live w f → w ≡ None → 0 < width f
 unfolding width
-width-live (some v) f l e = let z : ◌≡◌ {A = ℕ} 0 1 = cc in absurd (omega arith)
-width-live none empty l e = absurd l
-width-live none (node a w kids next) l e = omega arith
+width-live (Some v) f l e = let z : ◌≡◌ {A = ℕ} 0 1 = cc in absurd (omega arith)
+width-live None empty l e = absurd l
+width-live None (node a w kids next) l e = omega arith
 
 -- what makes a trie orderly, said of the entries
 pub record OrderlyEntries (f : Forest) : Type 0 where
   pub rise : (k j : ℕ) → k ≤ size f → j + 1 < item_degree f k → (entry_item f (sum_below (item_degree f) k + j)).label < (entry_item f (sum_below (item_degree f) k + j + 1)).label
-  pub live : (e : ℕ) → e < size f → (entry_item f e).value ≡ none → 0 < item_degree f (suc e)
+  pub live : (e : ℕ) → e < size f → (entry_item f e).value ≡ None → 0 < item_degree f (suc e)
 
 module _ (f : Forest) where
   kids_at : ℕ → Forest

@@ -9,25 +9,25 @@ use mathlib.Core.Path.{◌≡◌, refl, sym}
 use Prim.Native.Nat.{ℕ, ◌*◌, ◌<◌, ◌≤◌}
 use native.Mathlib.Omega.{arith}
 use mathlib.Core.Bool.{Bool, true, false}
-use mathlib.Core.Option.{Option, none, some}
+use Rattle.std.specs.Prelude.{Option, None, Some}
 use lib.Dec.{leb}
 use borrow.Author.Tests.{le-leb, lt-leb, leb-true, leb-false}
 use Rattle.keymap.specs.Limits.{byte_limit}
 use Rattle.keymap.specs.Label.{mark, label_entry, value_word, label_in, value_in}
 
 pub label_in-label_entry : (a : ℕ) (w : Option ℕ) → a < byte_limit → label_in (label_entry a w) ≡ a
-label_in-label_entry a none h = omega arith
-label_in-label_entry a (some v) h = omega arith
+label_in-label_entry a None h = omega arith
+label_in-label_entry a (Some v) h = omega arith
 
 pub value_in-label_entry : (a : ℕ) (w : Option ℕ) → a < byte_limit → value_in (label_entry a w) (value_word w) ≡ w
-value_in-label_entry a none h = rw (lt-leb mark a h)
-value_in-label_entry a (some v) h =
-    let marked : mark ≤ label_entry a (some v) = omega arith in
-    rw (le-leb mark (label_entry a (some v)) marked)
+value_in-label_entry a None h = rw (lt-leb mark a h)
+value_in-label_entry a (Some v) h =
+    let marked : mark ≤ label_entry a (Some v) = omega arith in
+    rw (le-leb mark (label_entry a (Some v)) marked)
 
 pub label_entry-small : (a : ℕ) (w : Option ℕ) → a < byte_limit → label_entry a w < 2 * mark
-label_entry-small a none h = omega arith
-label_entry-small a (some v) h = omega arith
+label_entry-small a None h = omega arith
+label_entry-small a (Some v) h = omega arith
 
 -- what a number below twice the mark is made of
 pub label_entry-back : (e v : ℕ) → e < 2 * mark → label_entry (label_in e) (value_in e v) ≡ e

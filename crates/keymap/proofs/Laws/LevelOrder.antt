@@ -8,7 +8,7 @@
 use mathlib.Core.Path.{◌≡◌, refl, sym, ap, ap₂, ◌∙◌}
 use Prim.Native.Nat.{ℕ, suc}
 use mathlib.Core.List.{List, [], ◌∷◌, ◌++◌, map, map-append, map-map, flat_map}
-use mathlib.Core.Option.{Option, none}
+use Rattle.std.specs.Prelude.{Option, None}
 use lib.ListN.{length, length-map}
 use Rattle.keymap.specs.Key.{Key, last_byte}
 use Rattle.keymap.specs.Map.{Map, Catalogue, lookup}
@@ -33,11 +33,11 @@ unfoldable pub item_from : Key → Tree → Key → Item
 item_from p t q = record { label = last_byte (p ++ q); value = (descend q t).0; kids = (descend q t).1 }
 
 abbrev pub item_at : Forest → Key → Item
-item_at f p = item_from [] (none, f) p
+item_at f p = item_from [] (None, f) p
 
-item-further : (f : Forest) (p q : Key) → item_at f (p ++ q) ≡ item_from p (descend p (none, f)) q
+item-further : (f : Forest) (p q : Key) → item_at f (p ++ q) ≡ item_from p (descend p (None, f)) q
 unfolding item_from
-item-further f p q = ap (λ (t : Tree). record { label = last_byte (p ++ q); value = t.0; kids = t.1 }) (descend-append p q (none, f))
+item-further f p q = ap (λ (t : Tree). record { label = last_byte (p ++ q); value = t.0; kids = t.1 }) (descend-append p q (None, f))
 
 items-past : (p : Key) (a : ℕ) (v w : Option ℕ) (kids next : Forest) (qs : List Key) → All (Starts a) qs
     → map (item_from p (v, node a w kids next)) qs ≡ map (item_from p (v, next)) qs
@@ -63,13 +63,13 @@ map-cong g h e [] = refl
 map-cong g h e (x ∷ l) = rw (e x, map-cong g h e l)
 
 -- the nodes at the paths below a path are those of its siblings
-items-below : (f : Forest) → Orderly f → (p : Key) → map (item_at f) (paths_below f p) ≡ items (descend p (none, f)).1
+items-below : (f : Forest) → Orderly f → (p : Key) → map (item_at f) (paths_below f p) ≡ items (descend p (None, f)).1
 unfolding paths_below
 items-below f s p =
-    let t = descend p (none, f) in
+    let t = descend p (None, f) in
     map-map (item_at f) (λ (q : Key). p ++ q) (floor 0 t.1)
     ∙ map-cong (λ q. item_at f (p ++ q)) (item_from p t) (λ q. item-further f p q) (floor 0 t.1)
-    ∙ items-labels p t.0 t.1 (descend-orderly p (none, f) s)
+    ∙ items-labels p t.0 t.1 (descend-orderly p (None, f) s)
 
 items-all : (f : Forest) → Orderly f → (ps : List Key) → map (item_at f) (flat_map (paths_below f) ps) ≡ below (map (item_at f) ps)
 unfolding flat_map below item_from
@@ -101,10 +101,10 @@ unfolding floor width
 length-floor empty = refl
 length-floor (node a w kids next) = ap suc (length-floor next)
 
-degree-width : (f : Forest) → Orderly f → (p : Key) → degree (list_forest f) p ≡ width (descend p (none, f)).1
+degree-width : (f : Forest) → Orderly f → (p : Key) → degree (list_forest f) p ≡ width (descend p (None, f)).1
 unfolding degree paths_below
 degree-width f s p =
-    let kids = (descend p (none, f)).1 in
+    let kids = (descend p (None, f)).1 in
     ap length (children_in-forest f s p) ∙ length-map (floor 0 kids) (λ (q : Key). p ++ q) ∙ length-floor kids
 
 -- ---- the three slices
@@ -115,9 +115,9 @@ rows-say : (f : Forest) → Orderly f → (said : Row → ℕ) (told : Key → �
 rows-say f s said told e =
     rw (rows-prefixes f s, map-map, map-map) (map-cong told (λ p. said (row (item_at f p))) e (prefixes (list_forest f)))
 
-look : (f : Forest) → Orderly f → (p : Key) → lookup p (list_forest f) ≡ (descend p (none, f)).0
+look : (f : Forest) → Orderly f → (p : Key) → lookup p (list_forest f) ≡ (descend p (None, f)).0
 unfolding list_tree
-look f s p = lookup-list_tree (none, f) s p ∙ value_at-descend p (none, f)
+look f s p = lookup-list_tree (None, f) s p ∙ value_at-descend p (None, f)
 
 pub bits-forest : (f : Forest) → Orderly f → image_bits (list_forest f) ≡ forest_bits f
 unfolding image_bits forest_bits descend item_from

@@ -7,7 +7,7 @@ use mathlib.Core.Path.{◌≡◌, refl, ◌∙◌}
 use Prim.Native.Nat.{ℕ, zero, suc, ◌<◌, Ordering}
 use mathlib.Core.Bool.{Bool, true, false}
 use mathlib.Core.List.{List, [], ◌∷◌, ◌++◌, map}
-use mathlib.Core.Option.{Option, none, some}
+use Rattle.std.specs.Prelude.{Option, None, Some}
 use lib.ListN.{length, take}
 use lib.Dec.{leb, leb-zero, leb-suc-zero, leb-suc-suc}
 use Rattle.keymap.specs.Key.{Key, compare_keys}
@@ -16,7 +16,7 @@ use Rattle.keymap.specs.Forest.{Forest, empty, node, own_entry, behind_label, li
 use Rattle.keymap.specs.Prefixes.{once, level}
 use Rattle.keymap.proofs.Laws.Key.{compare-lt, compare_refl}
 use Rattle.keymap.proofs.Laws.Forest.{above-weak}
-use Rattle.keymap.proofs.Laws.Listing.{Some, list_tree-some}
+use Rattle.keymap.proofs.Laws.Listing.{HasEntry, list_tree-some}
 
 abbrev pub behind_byte : ℕ → Key → Key
 behind_byte a p = a ∷ p
@@ -75,7 +75,7 @@ level-under d a (e ∷ l) m h = go (leb d (length e.0)) refl (level-under d a l 
     go true p ih = rw (leb-suc-suc, p, ih) (once_under a (take d e.0) (level d l) (level (suc d) m) h)
     go false p ih = rw (leb-suc-suc, p, ih)
 
-level-zero : (l : Map) → Some l → level 0 l ≡ [] ∷ []
+level-zero : (l : Map) → HasEntry l → level 0 l ≡ [] ∷ []
 unfolding level compare_keys
 level-zero [] s = absurd s
 level-zero (e ∷ []) s = rw leb-zero
@@ -83,8 +83,8 @@ level-zero (e ∷ d ∷ l) s = rw (leb-zero (length e.0), level-zero (d ∷ l) t
 
 level-self : (d : ℕ) (w : Option ℕ) (m : Map) → level (suc d) (own_entry w ++ m) ≡ level (suc d) m
 unfolding level
-level-self d none m = refl
-level-self d (some v) m = rw leb-suc-zero
+level-self d None m = refl
+level-self d (Some v) m = rw leb-suc-zero
 
 pub level-floor : (f : Forest) → Orderly f → (d : ℕ) → level (suc d) (list_forest f) ≡ floor d f
 unfolding list_forest floor

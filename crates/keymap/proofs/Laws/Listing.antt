@@ -12,7 +12,7 @@
 use mathlib.Core.Path.{◌≡◌, refl, sym, ap, ◌∙◌}
 use Prim.Native.Nat.{ℕ, ◌<◌, compare, Ordering}
 use mathlib.Core.List.{[], ◌∷◌, ◌++◌, map}
-use mathlib.Core.Option.{Option, none, some}
+use Rattle.std.specs.Prelude.{Option, None, Some}
 use Rattle.keymap.specs.Key.{Key, compare_keys}
 use Rattle.keymap.specs.Map.{Map, Before, Rising, Proper, Catalogue, insert, lookup}
 use Rattle.keymap.specs.Forest.{Forest, empty, node, Tree, branch, grow, value_at, tree_of, own_entry, behind_label, list_forest, list_tree, Above, Live, Orderly}
@@ -22,7 +22,7 @@ use Rattle.keymap.proofs.Laws.Forest.{above-weak, branch-above, value_at-bare, v
 
 -- ---- the answers
 
-lookup-under : (a : ℕ) (k : Key) (l m : Map) → lookup (a ∷ k) m ≡ none → lookup (a ∷ k) (map (behind_label a) l ++ m) ≡ lookup k l
+lookup-under : (a : ℕ) (k : Key) (l m : Map) → lookup (a ∷ k) m ≡ None → lookup (a ∷ k) (map (behind_label a) l ++ m) ≡ lookup k l
 unfolding lookup compare_keys
 lookup-under a k [] m h = h
 lookup-under a k (e ∷ l) m h = rw (compare_refl, lookup-under a k l m h)
@@ -32,17 +32,17 @@ unfolding lookup compare_keys
 lookup-past a b k [] m h = refl
 lookup-past a b k (e ∷ l) m h = rw h (lookup-past a b k l m h)
 
-lookup-short : (a b : ℕ) (k : Key) (l m : Map) → compare a b ≡ Ordering.lt → lookup (a ∷ k) m ≡ none → lookup (a ∷ k) (map (behind_label b) l ++ m) ≡ none
+lookup-short : (a b : ℕ) (k : Key) (l m : Map) → compare a b ≡ Ordering.lt → lookup (a ∷ k) m ≡ None → lookup (a ∷ k) (map (behind_label b) l ++ m) ≡ None
 unfolding lookup compare_keys
 lookup-short a b k [] m h n = n
 lookup-short a b k (e ∷ l) m h n = rw h
 
-skip : (b : ℕ) (l m : Map) → lookup [] m ≡ none → lookup [] (map (behind_label b) l ++ m) ≡ none
+skip : (b : ℕ) (l m : Map) → lookup [] m ≡ None → lookup [] (map (behind_label b) l ++ m) ≡ None
 unfolding lookup compare_keys
 skip b [] m h = h
 skip b (e ∷ l) m h = refl
 
-lookup-nil : (f : Forest) → lookup [] (list_forest f) ≡ none
+lookup-nil : (f : Forest) → lookup [] (list_forest f) ≡ None
 unfolding list_forest lookup
 lookup-nil empty = refl
 lookup-nil (node b w kids next) = skip b (own_entry w ++ list_forest kids) (list_forest next) (lookup-nil next)
@@ -51,10 +51,10 @@ lookup-nil (node b w kids next) = skip b (own_entry w ++ list_forest kids) (list
 tree-lookup : (w : Option ℕ) (f : Forest) → ((a : ℕ) (k : Key) → lookup (a ∷ k) (list_forest f) ≡ value_at k (branch a f)) → (k : Key)
     → lookup k (own_entry w ++ list_forest f) ≡ value_at k (w, f)
 unfolding lookup value_at compare_keys
-tree-lookup none f h [] = lookup-nil f
-tree-lookup (some v) f h [] = refl
-tree-lookup none f h (a ∷ k) = h a k
-tree-lookup (some v) f h (a ∷ k) = h a k
+tree-lookup None f h [] = lookup-nil f
+tree-lookup (Some v) f h [] = refl
+tree-lookup None f h (a ∷ k) = h a k
+tree-lookup (Some v) f h (a ∷ k) = h a k
 
 entries-lookup : (f : Forest) → Orderly f → (a : ℕ) (k : Key) → lookup (a ∷ k) (list_forest f) ≡ value_at k (branch a f)
 unfolding list_forest branch lookup
@@ -64,10 +64,10 @@ entries-lookup (node b w kids next) s a k = go (order a b) (entries-lookup next 
     go : Order a b → lookup (a ∷ k) (list_forest next) ≡ value_at k (branch a next) → lookup k (own_entry w ++ list_forest kids) ≡ value_at k (w, kids)
         → lookup (a ∷ k) (list_forest (node b w kids next)) ≡ value_at k (branch a (node b w kids next))
     go (Order.below l e f) i j =
-        let z : value_at k (branch a next) ≡ none = rw (branch-above a next (above-weak a b next l s.0) s.3) (value_at-bare k) in
+        let z : value_at k (branch a next) ≡ None = rw (branch-above a next (above-weak a b next l s.0) s.3) (value_at-bare k) in
         rw e (lookup-short a b k (own_entry w ++ list_forest kids) (list_forest next) e (i ∙ z) ∙ sym z)
     go (Order.same l e) i j =
-        let z : value_at k (branch a next) ≡ none = rw (branch-above a next (rw l s.0) s.3) (value_at-bare k) in
+        let z : value_at k (branch a next) ≡ None = rw (branch-above a next (rw l s.0) s.3) (value_at-bare k) in
         rw (e, ← l) (lookup-under a k (own_entry w ++ list_forest kids) (list_forest next) (i ∙ z) ∙ j)
     go (Order.above l e f) i j = rw e (lookup-past a b k (own_entry w ++ list_forest kids) (list_forest next) e ∙ i)
 
@@ -113,8 +113,8 @@ nil-before empty = tt
 nil-before (node b w kids next) = nil-under b (own_entry w ++ list_forest kids) (list_forest next) (nil-before next)
 
 rising-tree : (w : Option ℕ) (f : Forest) → Rising (list_forest f) → Rising (own_entry w ++ list_forest f)
-rising-tree none f r = r
-rising-tree (some v) f r = (nil-before f, r)
+rising-tree None f r = r
+rising-tree (Some v) f r = (nil-before f, r)
 
 entries-rising : (f : Forest) → Orderly f → Rising (list_forest f)
 unfolding list_forest
@@ -168,12 +168,12 @@ unfolding grow
 grow_root [] v t n = absurd (n refl)
 grow_root (a ∷ k) v t n = refl
 
-pub tree_of-root : (m : Map) → Proper m → (tree_of m).0 ≡ none
+pub tree_of-root : (m : Map) → Proper m → (tree_of m).0 ≡ None
 unfolding tree_of
 tree_of-root [] p = refl
 tree_of-root (e ∷ m) p = grow_root e.0 e.1 (tree_of m) p.0 ∙ tree_of-root m p.3
 
-pub tree_of-whole : (m : Map) → Proper m → tree_of m ≡ (none, (tree_of m).1)
+pub tree_of-whole : (m : Map) → Proper m → tree_of m ≡ (None, (tree_of m).1)
 tree_of-whole m p = λ i. (tree_of-root m p i, (tree_of m).1)
 
 pub list_forest-tree_of : (m : Map) → Catalogue m → list_forest (tree_of m).1 ≡ m
@@ -182,17 +182,17 @@ list_forest-tree_of m c = ap list_tree (sym (tree_of-whole m c.proper)) ∙ list
 
 -- ---- a live tree has an entry
 
-abbrev pub Some : Map → Type 0
-Some [] = ⊥
-Some (e ∷ m) = Unit {0}
+abbrev pub HasEntry : Map → Type 0
+HasEntry [] = ⊥
+HasEntry (e ∷ m) = Unit {0}
 
-pub list_tree-some : (f : Forest) (w : Option ℕ) → Live w f → Orderly f → Some (own_entry w ++ list_forest f)
+pub list_tree-some : (f : Forest) (w : Option ℕ) → Live w f → Orderly f → HasEntry (own_entry w ++ list_forest f)
 unfolding list_forest
-list_tree-some empty (some v) l s = tt
-list_tree-some empty none l s = l
-list_tree-some (node a u kids next) (some v) l s = tt
-list_tree-some (node a u kids next) none l s = go (own_entry u ++ list_forest kids) (list_tree-some kids u s.1 s.2)
+list_tree-some empty (Some v) l s = tt
+list_tree-some empty None l s = l
+list_tree-some (node a u kids next) (Some v) l s = tt
+list_tree-some (node a u kids next) None l s = go (own_entry u ++ list_forest kids) (list_tree-some kids u s.1 s.2)
   where
-    go : (l : Map) → Some l → Some (map (behind_label a) l ++ list_forest next)
+    go : (l : Map) → HasEntry l → HasEntry (map (behind_label a) l ++ list_forest next)
     go [] h = absurd h
     go (e ∷ l) h = tt

@@ -18,7 +18,8 @@ use Prim.Native.Nat.{ℕ, ◌<◌, Ordering}
 use mathlib.Core.List.Memᴰ
 use mathlib.Core.List.{[], ◌∷◌, ◌++◌, append_assoc, append-nil, List-discrete}
 use native.Mathlib.Decide.{ℕ_discrete}
-use mathlib.Core.Option.{none, some, Option, none-ne-some, some-injective}
+use Rattle.std.specs.Prelude.{None, Some, Option}
+use Rattle.std.proofs.lemmas.Option.{none-some, same_Some}
 use Rattle.keymap.specs.Limits.{value_limit}
 use Rattle.keymap.specs.Key.{Key, compare_keys, Below, Bytes}
 use Rattle.keymap.specs.Map.{Map, Before, Rising, insert, lookup, Entry, Under, Proper, Catalogue, insert_all}
@@ -54,12 +55,12 @@ insert-rising k v (e ∷ m) r = go (key_order k e.0) (insert-rising k v m r.1)
     go (KeyOrder.same s p) ih = rw p (rw (← s) at r.0, r.1)
     go (KeyOrder.above p q) ih = rw p (insert-before k v m e.0 q r.0, ih)
 
-pub lookup-insert-same : (k : Key) (v : ℕ) (m : Map) → lookup k (insert k v m) ≡ some v
+pub lookup-insert-same : (k : Key) (v : ℕ) (m : Map) → lookup k (insert k v m) ≡ Some v
 unfolding insert lookup
 lookup-insert-same k v [] = rw compare_keys-refl
 lookup-insert-same k v (e ∷ m) = go (key_order k e.0) (lookup-insert-same k v m)
   where
-    go : KeyOrder k e.0 → lookup k (insert k v m) ≡ some v → lookup k (insert k v (e ∷ m)) ≡ some v
+    go : KeyOrder k e.0 → lookup k (insert k v m) ≡ Some v → lookup k (insert k v (e ∷ m)) ≡ Some v
     go (KeyOrder.below p q) ih = rw (p, compare_keys-refl)
     go (KeyOrder.same s p) ih = rw (p, compare_keys-refl)
     go (KeyOrder.above p q) ih = rw (p, p) ih
@@ -83,7 +84,7 @@ lookup-insert-other k v (e ∷ m) x n = go (key_order k e.0) (key_order x k) (lo
     go (KeyOrder.same s p) (KeyOrder.same s' p') ih = absurd (n s')
     go (KeyOrder.same s p) (KeyOrder.above p' q') ih = rw (p, ← s, p')
 
-pub lookup-before : (x : Key) (m : Map) → Before x m → lookup x m ≡ none
+pub lookup-before : (x : Key) (m : Map) → Before x m → lookup x m ≡ None
 unfolding lookup
 lookup-before x [] b = refl
 lookup-before x (e ∷ m) b = rw b
@@ -92,8 +93,8 @@ lookup-before x (e ∷ m) b = rw b
 pub map-ext : (m n : Map) → Rising m → Rising n → ((x : Key) → lookup x m ≡ lookup x n) → m ≡ n
 unfolding lookup
 map-ext [] [] r s h = refl
-map-ext [] (d ∷ n) r s h = let c : none ≡ some d.1 = h d.0 ∙ rw compare_keys-refl in cc
-map-ext (e ∷ m) [] r s h = let c : none ≡ some e.1 = sym (h e.0) ∙ rw compare_keys-refl in cc
+map-ext [] (d ∷ n) r s h = let c : None ≡ Some d.1 = h d.0 ∙ rw compare_keys-refl in cc
+map-ext (e ∷ m) [] r s h = let c : None ≡ Some e.1 = sym (h e.0) ∙ rw compare_keys-refl in cc
 map-ext (e ∷ m) (d ∷ n) r s h = go (key_order e.0 d.0) (λ t. map-ext m n r.1 s.1 t)
   where
     tails : e.0 ≡ d.0 → (x : Key) → lookup x m ≡ lookup x n
@@ -106,10 +107,10 @@ map-ext (e ∷ m) (d ∷ n) r s h = go (key_order e.0 d.0) (λ t. map-ext m n r.
         case (KeyOrder.above u w) = rw (u, rw p at u) at (h x)
 
     go : KeyOrder e.0 d.0 → (((x : Key) → lookup x m ≡ lookup x n) → m ≡ n) → e ∷ m ≡ d ∷ n
-    go (KeyOrder.below p q) t = let c : none ≡ some e.1 = sym (rw (compare_keys-refl, p) at (h e.0)) in cc
-    go (KeyOrder.above p q) t = let c : none ≡ some d.1 = rw (compare_keys-refl, q) at (h d.0) in cc
+    go (KeyOrder.below p q) t = let c : None ≡ Some e.1 = sym (rw (compare_keys-refl, p) at (h e.0)) in cc
+    go (KeyOrder.above p q) t = let c : None ≡ Some d.1 = rw (compare_keys-refl, q) at (h d.0) in cc
     go (KeyOrder.same p q) t =
-        let values : some e.1 ≡ some d.1 = rw (compare_keys-refl, p, compare_keys-refl) at (h e.0) in
+        let values : Some e.1 ≡ Some d.1 = rw (compare_keys-refl, p, compare_keys-refl) at (h e.0) in
         let v : e.1 ≡ d.1 = cc in
         let rest : m ≡ n = t (tails p) in
         λ i. (p i, v i) ∷ rest i
@@ -140,9 +141,9 @@ rising-iff (e ∷ m) = (λ r. (before-all e.0 m r.0 r.1, (rising-iff m).0 r.1), 
     first (d ∷ n) h = h d (here refl)
 
 -- a key has a value exactly if the two are an entry
-pub lookup-iff : (k : Key) (v : ℕ) (m : Map) → Rising m → (lookup k m ≡ some v) ↔ In (k, v) m
+pub lookup-iff : (k : Key) (v : ℕ) (m : Map) → Rising m → (lookup k m ≡ Some v) ↔ In (k, v) m
 unfolding lookup
-lookup-iff k v [] r = (λ h. absurd (none-ne-some v h), λ h. absurd (Memᴰ.not-nil h))
+lookup-iff k v [] r = (λ h. absurd (none-some v h), λ h. absurd (Memᴰ.not-nil h))
 lookup-iff k v (e ∷ m) r = go (key_order k e.0) (lookup-iff k v m r.1)
   where
     ahead : In (k, v) m → Below e.0 k
@@ -151,18 +152,18 @@ lookup-iff k v (e ∷ m) r = go (key_order k e.0) (lookup-iff k v m r.1)
     own : (k, v) ≡ e → k ≡ e.0
     own s i = (s i).0
 
-    held : (k, v) ≡ e → some e.1 ≡ some v
-    held s = sym (λ i. some (s i).1)
+    held : (k, v) ≡ e → Some e.1 ≡ Some v
+    held s = sym (λ i. Some (s i).1)
 
-    go : KeyOrder k e.0 → (lookup k m ≡ some v) ↔ In (k, v) m → (lookup k (e ∷ m) ≡ some v) ↔ In (k, v) (e ∷ m)
+    go : KeyOrder k e.0 → (lookup k m ≡ Some v) ↔ In (k, v) m → (lookup k (e ∷ m) ≡ Some v) ↔ In (k, v) (e ∷ m)
     go (KeyOrder.below p q) ih =
         rw p (
-          λ h. absurd (none-ne-some v h),
+          λ h. absurd (none-some v h),
           λ h. absurd (⊎_elim (λ s. below_irrefl e.0 (rw (own s) at p)) (λ i. below-asym k e.0 p (ahead i)) (Memᴰ.cases_cons h)),
         )
     go (KeyOrder.same s p) ih =
         rw p (
-          λ h. let u : e.1 ≡ v = some-injective e.1 v h in here (λ i. (s i, sym u i)),
+          λ h. let u : e.1 ≡ v = same_Some e.1 v h in here (λ i. (s i, sym u i)),
           λ h. ⊎_elim held (λ i. absurd (below_irrefl k (rw (← s) at (ahead i)))) (Memᴰ.cases_cons h),
         )
     go (KeyOrder.above p q) ih =
@@ -172,26 +173,26 @@ lookup-iff k v (e ∷ m) r = go (key_order k e.0) (lookup-iff k v m r.1)
 -- entries with one key are one entry
 pub entry-one : (m : Map) → Rising m → (e d : Entry) → In e m → In d m → e.0 ≡ d.0 → e ≡ d
 entry-one m r e d i j s =
-    let h : lookup e.0 m ≡ some e.1 = (lookup-iff e.0 e.1 m r).1 i in
-    let g : lookup d.0 m ≡ some d.1 = (lookup-iff d.0 d.1 m r).1 j in
-    let u : e.1 ≡ d.1 = some-injective e.1 d.1 (sym h ∙ ap (λ x. lookup x m) s ∙ g) in
+    let h : lookup e.0 m ≡ Some e.1 = (lookup-iff e.0 e.1 m r).1 i in
+    let g : lookup d.0 m ≡ Some d.1 = (lookup-iff d.0 d.1 m r).1 j in
+    let u : e.1 ≡ d.1 = same_Some e.1 d.1 (sym h ∙ ap (λ x. lookup x m) s ∙ g) in
     λ t. (s t, u t)
 
 -- a key has no value exactly if no entry has it
-pub lookup-none : (k : Key) (m : Map) → Rising m → (lookup k m ≡ none) ↔ ((v : ℕ) → ¬ In (k, v) m)
-lookup-none k m r = (λ h v i. none-ne-some v (sym h ∙ (lookup-iff k v m r).1 i), go (lookup k m) refl)
+pub lookup-none : (k : Key) (m : Map) → Rising m → (lookup k m ≡ None) ↔ ((v : ℕ) → ¬ In (k, v) m)
+lookup-none k m r = (λ h v i. none-some v (sym h ∙ (lookup-iff k v m r).1 i), go (lookup k m) refl)
   where
-    go : (o : Option ℕ) → lookup k m ≡ o → ((v : ℕ) → ¬ In (k, v) m) → lookup k m ≡ none
-    go none e h = e
-    go (some v) e h = absurd (h v ((lookup-iff k v m r).0 e))
+    go : (o : Option ℕ) → lookup k m ≡ o → ((v : ℕ) → ¬ In (k, v) m) → lookup k m ≡ None
+    go None e h = e
+    go (Some v) e h = absurd (h v ((lookup-iff k v m r).0 e))
 
 -- look-ups follow the entries
 pub lookup-members : (k : Key) (m n : Map) → Rising m → Rising n → ((v : ℕ) → In (k, v) m ↔ In (k, v) n) → lookup k m ≡ lookup k n
 lookup-members k m n r s h = go (lookup k n) refl
   where
     go : (o : Option ℕ) → lookup k n ≡ o → lookup k m ≡ lookup k n
-    go none e = (lookup-none k m r).1 (λ v i. (lookup-none k n s).0 e v ((h v).0 i)) ∙ sym e
-    go (some v) e = (lookup-iff k v m r).1 ((h v).1 ((lookup-iff k v n s).0 e)) ∙ sym e
+    go None e = (lookup-none k m r).1 (λ v i. (lookup-none k n s).0 e v ((h v).0 i)) ∙ sym e
+    go (Some v) e = (lookup-iff k v m r).1 ((h v).1 ((lookup-iff k v n s).0 e)) ∙ sym e
 
 -- two maps with the same entries are the same list
 pub map-members : (m n : Map) → Rising m → Rising n → ((e : Entry) → In e m ↔ In e n) → m ≡ n
@@ -206,11 +207,11 @@ insert_iff k v m r e = (from (dec_key e.0 k), to)
 
     from : Dec (e.0 ≡ k) → In e (insert k v m) → (e ≡ (k, v)) ⊎ (In e m × (¬ (e.0 ≡ k)))
     from (yes s) i =
-        let h : lookup e.0 (insert k v m) ≡ some e.1 = (lookup-iff e.0 e.1 _ after).1 i in
-        let u : v ≡ e.1 = some-injective v e.1 (sym (lookup-insert-same k v m) ∙ rw s at h) in
+        let h : lookup e.0 (insert k v m) ≡ Some e.1 = (lookup-iff e.0 e.1 _ after).1 i in
+        let u : v ≡ e.1 = same_Some v e.1 (sym (lookup-insert-same k v m) ∙ rw s at h) in
         inl (λ t. (s t, sym u t))
     from (no n) i =
-        let h : lookup e.0 (insert k v m) ≡ some e.1 = (lookup-iff e.0 e.1 _ after).1 i in
+        let h : lookup e.0 (insert k v m) ≡ Some e.1 = (lookup-iff e.0 e.1 _ after).1 i in
         inr ((lookup-iff e.0 e.1 m r).0 (sym (lookup-insert-other k v m e.0 n) ∙ h), n)
 
     to : (e ≡ (k, v)) ⊎ (In e m × (¬ (e.0 ≡ k))) → In e (insert k v m)
@@ -218,7 +219,7 @@ insert_iff k v m r e = (from (dec_key e.0 k), to)
     to (inr (i, n)) = (lookup-iff e.0 e.1 _ after).0 (lookup-insert-other k v m e.0 n ∙ (lookup-iff e.0 e.1 m r).1 i)
 
 -- no proper map has the empty key
-pub lookup-empty : (m : Map) → Proper m → lookup [] m ≡ none
+pub lookup-empty : (m : Map) → Proper m → lookup [] m ≡ None
 unfolding lookup compare_keys
 lookup-empty [] p = refl
 lookup-empty (([], v) ∷ m) p = absurd (p.0 refl)

@@ -15,10 +15,11 @@ use Prim.Native.Nat.{ℕ, zero, suc, ◌≤◌, ◌<◌}
 use native.Mathlib.Nat.{le_of_suc-le-suc}
 use native.Mathlib.Omega.{arith}
 use mathlib.Core.List.Memᴰ
-use mathlib.Core.List.{List, [], ◌∷◌, ◌++◌, map, head?}
-use mathlib.Core.Option.{none, some, none-ne-some, some-injective}
+use mathlib.Core.List.{List, [], ◌∷◌, ◌++◌, map}
+use Rattle.std.specs.Prelude.{None, Some}
+use Rattle.std.proofs.lemmas.Option.{none-some, same_Some}
 use lib.ListN.{length, get_or, length-append}
-use Rattle.keymap.specs.Members.{In, here, there, Ordered, Distinct}
+use Rattle.keymap.specs.Members.{In, here, there, Ordered, Distinct, head_of}
 
 module _ {A B : Type 0} (f : A → B) where
   in-map-from : {y : B} (xs : List A) → In y (map f xs) → (x : A) × In x xs × (y ≡ f x)
@@ -37,19 +38,19 @@ module _ {A B : Type 0} (f : A → B) where
   in_map y xs = (in-map-from xs, λ h. Memᴰ.cast h.2 (in-map-to h.1))
 
 module _ {A : Type 0} where
-  pub head_in : {x : A} (xs : List A) → head? xs ≡ some x → In x xs
-  head_in {x} [] e = absurd (none-ne-some x e)
-  head_in {x} (y ∷ xs) e = here (sym (some-injective y x e))
+  pub head_in : {x : A} (xs : List A) → head_of xs ≡ Some x → In x xs
+  head_in {x} [] e = absurd (none-some x e)
+  head_in {x} (y ∷ xs) e = here (sym (same_Some y x e))
 
-  pub head-none : (xs : List A) → head? xs ≡ none → xs ≡ []
+  pub head-none : (xs : List A) → head_of xs ≡ None → xs ≡ []
   head-none [] e = refl
-  head-none (x ∷ xs) e = absurd (none-ne-some x (sym e))
+  head-none (x ∷ xs) e = absurd (none-some x (sym e))
 
   -- the head stands before all others
-  pub head-before : (R : A → A → Type 0) {x : A} (xs : List A) → Ordered R xs → head? xs ≡ some x → (y : A) → In y xs → (y ≡ x) ⊎ R x y
+  pub head-before : (R : A → A → Type 0) {x : A} (xs : List A) → Ordered R xs → head_of xs ≡ Some x → (y : A) → In y xs → (y ≡ x) ⊎ R x y
   head-before R {x} [] o e y i = absurd (Memᴰ.not-nil i)
   head-before R {x} (z ∷ xs) o e y i =
-      let s : z ≡ x = some-injective z x e in
+      let s : z ≡ x = same_Some z x e in
       ⊎_elim (λ t. inl (t ∙ s)) (λ j. inr (rw s at (o.0 y j))) (Memᴰ.cases_cons i)
 
   -- what stands at an index of a list is one of it

@@ -17,7 +17,7 @@ use Prim.Native.Nat.{ℕ, zero, suc, ◌+◌, ◌≤◌, ◌<◌}
 use native.Mathlib.Omega.{arith}
 use mathlib.Core.List.Memᴰ
 use mathlib.Core.List.{List, [], ◌∷◌, ◌++◌, map, cons-ne-nil}
-use mathlib.Core.Option.{some}
+use Rattle.std.specs.Prelude.{Some}
 use lib.ListN.{length, take, length-append, length-take, length-map}
 use lib.Dec.{leb}
 use borrow.Author.Tests.{leb-true, leb-false, not-true}
@@ -284,5 +284,5 @@ pub missing-none : (k : Key) (m : Map) → SomeBegins k m → missing k m ≡ 0
 unfolding missing
 missing-none k m (e, i, f) = ap length (members-none (fresh k m) (λ p j. let (n, g, a) = (fresh-iff k m p).0 j in a (e, i, prefix_trans p k e.0 g f)))
 
-pub missing-present : (k : Key) (v : ℕ) (m : Map) → Rising m → lookup k m ≡ some v → missing k m ≡ 0
+pub missing-present : (k : Key) (v : ℕ) (m : Map) → Rising m → lookup k m ≡ Some v → missing k m ≡ 0
 missing-present k v m r h = missing-none k m ((k, v), (lookup-iff k v m r).0 h, prefix_refl k)

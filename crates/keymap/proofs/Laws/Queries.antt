@@ -21,12 +21,13 @@ use mathlib.Core.Bool.{Bool, true, false, cond, ◌&&◌, true≢false, false≢
 use Prim.Native.Nat.{ℕ, ◌≤◌, ◌<◌, Ordering}
 use native.Mathlib.Omega.{arith}
 use mathlib.Core.List.Memᴰ
-use mathlib.Core.List.{List, [], ◌∷◌, ◌++◌, head?, cons-ne-nil}
-use mathlib.Core.Option.{Option, none, some, none-ne-some, some-injective}
+use mathlib.Core.List.{List, [], ◌∷◌, ◌++◌, cons-ne-nil}
+use Rattle.std.specs.Prelude.{Option, None, Some}
+use Rattle.std.proofs.lemmas.Option.{none-some, same_Some}
 use lib.ListN.{length}
 use lib.Dec.{ltb}
 use borrow.Author.Tests.{ltb-true, lt-ltb}
-use Rattle.keymap.specs.Members.{In, here, there, Ordered}
+use Rattle.keymap.specs.Members.{In, here, there, Ordered, head_of}
 use Rattle.keymap.specs.Key.{Key, pick, compare_keys, Below, is_below, begins_with, PrefixOf, extends}
 use Rattle.keymap.specs.Map.{Entry, Map, Under, Rising, lookup}
 use Rattle.keymap.specs.Queries.{keep, nonempty, SomeBegins, beginning, longer, is_prefix_in, LongestCommon, common_of_all, unless_empty, longest_prefix_in, ShortestWithin, common_prefix_in, NextAfter, least_above}
@@ -114,7 +115,7 @@ module _ {A : Type 0} (s t : A → Bool) (sharper : (x : A) → s x ≡ true →
 pub keep-rising : (test : Entry → Bool) (m : Map) → Rising m → Rising (keep test m)
 keep-rising test m r = (rising-iff (keep test m)).1 (keep-ordered test _ m ((rising-iff m).0 r))
 
-pub lookup-keep : (test : Key → Bool) (m : Map) → Rising m → (k : Key) → lookup k (keep (λ (e : Entry). test e.0) m) ≡ cond (test k) (lookup k m) none
+pub lookup-keep : (test : Key → Bool) (m : Map) → Rising m → (k : Key) → lookup k (keep (λ (e : Entry). test e.0) m) ≡ cond (test k) (lookup k m) None
 lookup-keep test m r k = go (test k) refl
   where
     kept : Map
@@ -126,7 +127,7 @@ lookup-keep test m r k = go (test k) refl
     has : (v : ℕ) → In (k, v) kept ↔ (In (k, v) m × (test k ≡ true))
     has v = keep-iff (λ (e : Entry). test e.0) (k, v) m
 
-    go : (t : Bool) → test k ≡ t → lookup k kept ≡ cond t (lookup k m) none
+    go : (t : Bool) → test k ≡ t → lookup k kept ≡ cond t (lookup k m) None
     go true e = lookup-members k kept m rises r (λ v. (λ i. ((has v).0 i).0, λ i. (has v).1 (i, e)))
     go false e = (lookup-none k kept rises).1 (λ v i. false≢true (sym e ∙ ((has v).0 i).1))
 
@@ -142,7 +143,7 @@ pub beginning-rising : (q : Key) (m : Map) → Rising m → Rising (beginning q 
 unfolding beginning
 beginning-rising q m r = keep-rising (λ (d : Entry). begins_with q d.0) m r
 
-pub lookup-beginning : (q : Key) (m : Map) → Rising m → (k : Key) → lookup k (beginning q m) ≡ cond (begins_with q k) (lookup k m) none
+pub lookup-beginning : (q : Key) (m : Map) → Rising m → (k : Key) → lookup k (beginning q m) ≡ cond (begins_with q k) (lookup k m) None
 unfolding beginning
 lookup-beginning q m r k = lookup-keep (begins_with q) m r k
 
@@ -160,7 +161,7 @@ pub longer-rising : (q : Key) (m : Map) → Rising m → Rising (longer q m)
 unfolding longer
 longer-rising q m r = keep-rising (λ (d : Entry). extends q d.0) m r
 
-pub lookup-longer : (q : Key) (m : Map) → Rising m → (k : Key) → lookup k (longer q m) ≡ cond (extends q k) (lookup k m) none
+pub lookup-longer : (q : Key) (m : Map) → Rising m → (k : Key) → lookup k (longer q m) ≡ cond (extends q k) (lookup k m) None
 unfolding longer
 lookup-longer q m r k = lookup-keep (extends q) m r k
 
@@ -172,7 +173,7 @@ longer-beginning q m e = (
 )
 
 -- as lists: the query's own entry comes first in the predictive listing, if it is there, and then the postfix listing
-pub beginning-present : (q : Key) (v : ℕ) (m : Map) → Rising m → lookup q m ≡ some v → beginning q m ≡ (q, v) ∷ longer q m
+pub beginning-present : (q : Key) (v : ℕ) (m : Map) → Rising m → lookup q m ≡ Some v → beginning q m ≡ (q, v) ∷ longer q m
 beginning-present q v m r h = map-members _ _ (beginning-rising q m r) rises (λ e. (from e (dec_key e.0 q), to e))
   where
     own : In (q, v) (beginning q m)
@@ -190,7 +191,7 @@ beginning-present q v m r h = map-members _ _ (beginning-rising q m r) rises (λ
     to : (e : Entry) → In e ((q, v) ∷ longer q m) → In e (beginning q m)
     to e i = ⊎_elim (λ s. Memᴰ.cast s own) (λ j. ((longer-beginning q m e).0 j).0) (Memᴰ.cases_cons i)
 
-pub beginning-absent : (q : Key) (m : Map) → Rising m → lookup q m ≡ none → beginning q m ≡ longer q m
+pub beginning-absent : (q : Key) (m : Map) → Rising m → lookup q m ≡ None → beginning q m ≡ longer q m
 beginning-absent q m r h =
     map-members _ _ (beginning-rising q m r) (longer-rising q m r)
     (λ e. (λ i. (longer-beginning q m e).1 (i, away e ((beginning-iff q m e).0 i).0), λ i. ((longer-beginning q m e).0 i).0))
@@ -238,19 +239,19 @@ longest_common-begins m p r e i c h = prefix-chain r p e.0 (h e i) (c.common e i
 pub longest_common-one : (m : Map) (p r : Key) (e : Entry) → In e m → LongestCommon m p → LongestCommon m r → p ≡ r
 longest_common-one m p r e i c d = prefix-whole p r (longest_common-begins m r p e i d c.common) (c.longest r d.common)
 
-unless_empty-some : (k p : Key) → (unless_empty k ≡ some p) ↔ ((k ≡ p) × (¬ (p ≡ [])))
-unless_empty-some [] p = (λ h. absurd (none-ne-some p h), λ h. absurd (h.1 (sym h.0)))
+unless_empty-some : (k p : Key) → (unless_empty k ≡ Some p) ↔ ((k ≡ p) × (¬ (p ≡ [])))
+unless_empty-some [] p = (λ h. absurd (none-some p h), λ h. absurd (h.1 (sym h.0)))
 unless_empty-some (a ∷ k) p =
-    let same : some (a ∷ k) ≡ some p → a ∷ k ≡ p = some-injective (a ∷ k) p in
-    (λ h. (same h, λ s. cons-ne-nil a k (same h ∙ s)), λ h. ap some h.0)
+    let same : Some (a ∷ k) ≡ Some p → a ∷ k ≡ p = same_Some (a ∷ k) p in
+    (λ h. (same h, λ s. cons-ne-nil a k (same h ∙ s)), λ h. ap Some h.0)
 
-unless_empty-none : (k : Key) → (unless_empty k ≡ none) ↔ (k ≡ [])
+unless_empty-none : (k : Key) → (unless_empty k ≡ None) ↔ (k ≡ [])
 unless_empty-none [] = (λ h. refl, λ h. refl)
-unless_empty-none (a ∷ k) = (λ h. absurd (none-ne-some (a ∷ k) (sym h)), λ h. absurd (cons-ne-nil a k h))
+unless_empty-none (a ∷ k) = (λ h. absurd (none-some (a ∷ k) (sym h)), λ h. absurd (cons-ne-nil a k h))
 
 -- some key begins with q, all that do have p in common and nothing longer, and p is not empty
 pub longest_prefix_in-some :
-    (q : Key) (m : Map) (p : Key) → (longest_prefix_in q m ≡ some p) ↔ (SomeBegins q m × LongestCommon (beginning q m) p × (¬ (p ≡ [])))
+    (q : Key) (m : Map) (p : Key) → (longest_prefix_in q m ≡ Some p) ↔ (SomeBegins q m × LongestCommon (beginning q m) p × (¬ (p ≡ [])))
 unfolding longest_prefix_in common_of_all
 longest_prefix_in-some q m p = (
   λ h. let (s, n) = (unless_empty-some _ p).0 h in from (beginning q m) refl s n,
@@ -267,7 +268,7 @@ longest_prefix_in-some q m p = (
         ((e, i, f), rw s at (common_of_all-longest (e ∷ n) e (here refl)), u)
 
 pub longest_prefix_in-none :
-    (q : Key) (m : Map) → (longest_prefix_in q m ≡ none) ↔ ((¬ SomeBegins q m) ⊎ LongestCommon (beginning q m) [])
+    (q : Key) (m : Map) → (longest_prefix_in q m ≡ None) ↔ ((¬ SomeBegins q m) ⊎ LongestCommon (beginning q m) [])
 unfolding longest_prefix_in common_of_all
 longest_prefix_in-none q m = (λ h. from (beginning q m) refl ((unless_empty-none _).0 h), λ h. (unless_empty-none _).1 (to (beginning q m) refl h))
   where
@@ -292,13 +293,13 @@ first_one test m r d e (j, u, g) (i, t, h) = go (key_order d.0 e.0)
     go (KeyOrder.same p q) = entry-one m r d e j i p
     go (KeyOrder.above p q) = absurd (g e i t q)
 
-first_some : (test : Entry → Bool) (m : Map) → Rising m → (e : Entry) → (head? (keep test m) ≡ some e) ↔ First test m e
-first_some test m r e = (from e, λ h. to h (head? (keep test m)) refl)
+first_some : (test : Entry → Bool) (m : Map) → Rising m → (e : Entry) → (head_of (keep test m) ≡ Some e) ↔ First test m e
+first_some test m r e = (from e, λ h. to h (head_of (keep test m)) refl)
   where
     kept : Ordered Under (keep test m)
     kept = (rising-iff (keep test m)).0 (keep-rising test m r)
 
-    from : (c : Entry) → head? (keep test m) ≡ some c → First test m c
+    from : (c : Entry) → head_of (keep test m) ≡ Some c → First test m c
     from c h =
         let (i, t) = (keep-iff test c m).0 (head_in (keep test m) h) in (
           i,
@@ -308,26 +309,26 @@ first_some test m r e = (from e, λ h. to h (head? (keep test m)) refl)
               (head-before Under (keep test m) kept h d ((keep-iff test d m).1 (j, s))),
         )
 
-    to : First test m e → (o : Option Entry) → head? (keep test m) ≡ o → head? (keep test m) ≡ some e
-    to f none s = absurd ((keep-none test m).0 (head-none (keep test m) s) e f.0 f.1)
-    to f (some d) s = s ∙ ap some (first_one test m r d e (from d s) f)
+    to : First test m e → (o : Option Entry) → head_of (keep test m) ≡ o → head_of (keep test m) ≡ Some e
+    to f None s = absurd ((keep-none test m).0 (head-none (keep test m) s) e f.0 f.1)
+    to f (Some d) s = s ∙ ap Some (first_one test m r d e (from d s) f)
 
-first-none : (test : Entry → Bool) (m : Map) → (head? (keep test m) ≡ none) ↔ ((e : Entry) → In e m → ¬ (test e ≡ true))
-first-none test m = (λ h. (keep-none test m).0 (head-none _ h), λ h. ap head? ((keep-none test m).1 h))
+first-none : (test : Entry → Bool) (m : Map) → (head_of (keep test m) ≡ None) ↔ ((e : Entry) → In e m → ¬ (test e ≡ true))
+first-none test m = (λ h. (keep-none test m).0 (head-none _ h), λ h. ap head_of ((keep-none test m).1 h))
 
 fits_iff : (q : Key) (seen : ℕ) (k : Key) → ((begins_with k q && ltb seen (length k)) ≡ true) ↔ (PrefixOf k q × (seen < length k))
 fits_iff q seen k =
     let both : ((begins_with k q && ltb seen (length k)) ≡ true) ↔ (PrefixOf k q × (ltb seen (length k) ≡ true)) = both_true (begins_with k q) (ltb seen (length k)) in
     (λ h. ((both.0 h).0, ltb-true _ _ (both.0 h).1), λ h. both.1 (h.0, lt-ltb _ _ h.1))
 
-pub common_prefix_in-some : (q : Key) (seen : ℕ) (m : Map) → Rising m → (e : Entry) → (common_prefix_in q seen m ≡ some e) ↔ ShortestWithin q seen m e
+pub common_prefix_in-some : (q : Key) (seen : ℕ) (m : Map) → Rising m → (e : Entry) → (common_prefix_in q seen m ≡ Some e) ↔ ShortestWithin q seen m e
 unfolding common_prefix_in
 common_prefix_in-some q seen m r e = (λ h. from (first.0 h), λ h. first.1 (to h))
   where
     test : Entry → Bool
     test d = begins_with d.0 q && ltb seen (length d.0)
 
-    first : (common_prefix_in q seen m ≡ some e) ↔ First test m e
+    first : (common_prefix_in q seen m ≡ Some e) ↔ First test m e
     first = first_some test m r e
 
     from : First test m e → ShortestWithin q seen m e
@@ -349,20 +350,20 @@ common_prefix_in-some q seen m r e = (λ h. from (first.0 h), λ h. first.1 (to 
           omega (arith, c.shortest d j v l, (prefix-rises d.0 e.0 q v c.within).0 b),
     )
 
-pub common_prefix_in-none : (q : Key) (seen : ℕ) (m : Map) → (common_prefix_in q seen m ≡ none) ↔ ((e : Entry) → In e m → PrefixOf e.0 q → ¬ (seen < length e.0))
+pub common_prefix_in-none : (q : Key) (seen : ℕ) (m : Map) → (common_prefix_in q seen m ≡ None) ↔ ((e : Entry) → In e m → PrefixOf e.0 q → ¬ (seen < length e.0))
 unfolding common_prefix_in
 common_prefix_in-none q seen m =
-    let first : (common_prefix_in q seen m ≡ none) ↔ ((e : Entry) → In e m → ¬ ((begins_with e.0 q && ltb seen (length e.0)) ≡ true)) =
+    let first : (common_prefix_in q seen m ≡ None) ↔ ((e : Entry) → In e m → ¬ ((begins_with e.0 q && ltb seen (length e.0)) ≡ true)) =
     first-none (λ (e : Entry). begins_with e.0 q && ltb seen (length e.0)) m in
     (λ h e i w l. first.0 h e i ((fits_iff q seen e.0).1 (w, l)), λ h. first.1 (λ e i t. let (w, l) = (fits_iff q seen e.0).0 t in h e i w l))
 
 -- what is answered is a prefix of the query
-pub common_prefix_in-within : (q : Key) (seen : ℕ) (m : Map) (e : Entry) → common_prefix_in q seen m ≡ some e → PrefixOf e.0 q
+pub common_prefix_in-within : (q : Key) (seen : ℕ) (m : Map) (e : Entry) → common_prefix_in q seen m ≡ Some e → PrefixOf e.0 q
 unfolding common_prefix_in
 common_prefix_in-within q seen m e h = ((fits_iff q seen e.0).0 ((keep-iff (λ (d : Entry). begins_with d.0 q && ltb seen (length d.0)) e m).0 (head_in _ h)).1).0
 
 -- nothing that is longer than the query is a prefix of it
-pub common_prefix_in-past : (q : Key) (seen : ℕ) (m : Map) → length q ≤ seen → common_prefix_in q seen m ≡ none
+pub common_prefix_in-past : (q : Key) (seen : ℕ) (m : Map) → length q ≤ seen → common_prefix_in q seen m ≡ None
 common_prefix_in-past q seen m h = (common_prefix_in-none q seen m).1 (λ e i w l. omega (arith, prefix-length e.0 q w))
 
 pub above-iff : (k x : Key) → (is_below k x ≡ true) ↔ Below k x
@@ -373,10 +374,10 @@ above-iff k x = go (compare_keys k x) refl
     go Ordering.eq e = (λ h. absurd (false≢true h), λ h. cc)
     go Ordering.gt e = (λ h. absurd (false≢true h), λ h. cc)
 
-pub least_above-some : (k : Key) (m : Map) → Rising m → (e : Entry) → (least_above k m ≡ some e) ↔ NextAfter k m e
+pub least_above-some : (k : Key) (m : Map) → Rising m → (e : Entry) → (least_above k m ≡ Some e) ↔ NextAfter k m e
 unfolding least_above
 least_above-some k m r e =
-    let first : (least_above k m ≡ some e) ↔ First test m e = first_some test m r e in (
+    let first : (least_above k m ≡ Some e) ↔ First test m e = first_some test m r e in (
       λ h.
           let (i, t, g) = first.0 h in
           record { entry = i; above = (above-iff k e.0).0 t; least = λ d j b. g d j ((above-iff k d.0).1 b) },
@@ -386,10 +387,10 @@ least_above-some k m r e =
     test : Entry → Bool
     test d = is_below k d.0
 
-pub least_above-none : (k : Key) (m : Map) → (least_above k m ≡ none) ↔ ((e : Entry) → In e m → ¬ Below k e.0)
+pub least_above-none : (k : Key) (m : Map) → (least_above k m ≡ None) ↔ ((e : Entry) → In e m → ¬ Below k e.0)
 unfolding least_above
 least_above-none k m =
-    let first : (least_above k m ≡ none) ↔ ((e : Entry) → In e m → ¬ (is_below k e.0 ≡ true)) =
+    let first : (least_above k m ≡ None) ↔ ((e : Entry) → In e m → ¬ (is_below k e.0 ≡ true)) =
     first-none (λ (e : Entry). is_below k e.0) m in
     (λ h e i b. first.0 h e i ((above-iff k e.0).1 b), λ h. first.1 (λ e i t. h e i ((above-iff k e.0).0 t)))
 
@@ -402,7 +403,7 @@ above-behind xs e ys r c i b = go (Memᴰ.append_cases xs i)
     go (inr j) = ⊎_elim (λ s. absurd (below_irrefl e.0 (rw s at b))) (λ h. h) (Memᴰ.cases_cons j)
 
 -- from the head on each step gives the entry behind the last one given, and none behind the last
-pub least_above-next : (xs : Map) (e : Entry) (ys : Map) → Rising (xs ++ (e ∷ ys)) → least_above e.0 (xs ++ (e ∷ ys)) ≡ head? ys
+pub least_above-next : (xs : Map) (e : Entry) (ys : Map) → Rising (xs ++ (e ∷ ys)) → least_above e.0 (xs ++ (e ∷ ys)) ≡ head_of ys
 least_above-next xs e [] r = (least_above-none e.0 (xs ++ (e ∷ []))).1 (λ c i b. Memᴰ.not-nil (above-behind xs e [] r c i b))
 least_above-next xs e (d ∷ ys) r =
     (least_above-some e.0 (xs ++ (e ∷ d ∷ ys)) r d).1

@@ -16,7 +16,7 @@ use mathlib.Core.Path.{◌≡◌, refl, sym, ap, ap₂, ◌∙◌}
 use Prim.Native.Nat.{ℕ, zero, suc, ◌+◌, ◌≤◌, ◌<◌}
 use native.Mathlib.Omega.{arith}
 use mathlib.Core.List.{List, [], ◌∷◌, ◌++◌, map, cons≢nil}
-use mathlib.Core.Option.{Option, none, some}
+use Rattle.std.specs.Prelude.{Option, None, Some}
 use mathlib.Core.Bool.{Bool, true, false}
 use lib.Dec.{leb}
 use borrow.Author.Tests.{leb-false}
@@ -77,8 +77,8 @@ module _ (f : Forest) (s : Orderly f) (b : ByteLabels f) (few : size f ≤ most_
 
 -- a value, if there is one, is of 32 bits
 abbrev Worth : Option ℕ → Type 0
-Worth none = Unit {0}
-Worth (some v) = v < value_limit
+Worth None = Unit {0}
+Worth (Some v) = v < value_limit
 
 abbrev Values : Forest → Type 0
 Values empty = Unit {0}
@@ -108,8 +108,8 @@ proper-plain [] p = tt
 proper-plain (e ∷ m) p = (p.1, p.2, proper-plain m p.3)
 
 plain-own : (w : Option ℕ) (m : Map) → Worth w → Plain m → Plain (own_entry w ++ m)
-plain-own none m v p = p
-plain-own (some x) m v p = (tt, v, p)
+plain-own None m v p = p
+plain-own (Some x) m v p = (tt, v, p)
 
 proper-under : (a : ℕ) (l m : Map) → a < byte_limit → Plain l → Proper m → Proper (map (behind_label a) l ++ m)
 proper-under a [] m h b p = p
@@ -122,11 +122,11 @@ list_forest-proper (node a w kids next) b v =
     proper-under a (own_entry w ++ list_forest kids) (list_forest next) b.0
     (plain-own w (list_forest kids) v.0 (proper-plain (list_forest kids) (list_forest-proper kids b.1 v.1))) (list_forest-proper next b.2 v.2)
 
-value_in-none : (e v : ℕ) → value_in e v ≡ none → e < mark
+value_in-none : (e v : ℕ) → value_in e v ≡ None → e < mark
 value_in-none e v h = go (leb mark e) refl
   where
     go : (t : Bool) → leb mark e ≡ t → e < mark
-    go true p = let q : some v ≡ none = rw p at h in let z : ◌≡◌ {A = ℕ} 0 1 = cc in absurd (omega arith)
+    go true p = let q : Some v ≡ None = rw p at h in let z : ◌≡◌ {A = ℕ} 0 1 = cc in absurd (omega arith)
     go false p = leb-false mark e p
 
 value_in-worth : (e v : ℕ) → v < value_limit → Worth (value_in e v)
@@ -210,7 +210,7 @@ module _ (i : Image) (d : ℕ) (ds : List ℕ) (c : Shape i d ds) where
   pub shape-catalogue : ((e : ℕ) → get_or i.values e 0 < value_limit) → Catalogue (image_map i)
   unfolding image_map list_tree entry_item
   shape-catalogue small = record {
-    rising = list_tree-rising (none, decode i) shape-orderly;
+    rising = list_tree-rising (None, decode i) shape-orderly;
     proper = list_forest-proper (decode i) shape-bytes (queue-values (size (decode i)) (decode i) refl each);
   }
     where

@@ -17,10 +17,10 @@ use mathlib.Core.Path.{◌≡◌, refl, sym, ap, subst, ◌∙◌}
 use mathlib.Core.Logic.{◌↔◌, ◌⊎◌, inl, inr}
 use Prim.Native.Nat.{ℕ, suc, ◌<◌}
 use native.Mathlib.Omega.{arith}
-use mathlib.Core.List.{List, [], ◌∷◌, ◌++◌, head?, append_assoc, append-nil, cons-ne-nil}
-use mathlib.Core.Option.{Option, none, some}
+use mathlib.Core.List.{List, [], ◌∷◌, ◌++◌, append_assoc, append-nil, cons-ne-nil}
+use Rattle.std.specs.Prelude.{Option, None, Some}
 use lib.ListN.{length, get_or, length-append}
-use Rattle.keymap.specs.Members.{In, Ordered}
+use Rattle.keymap.specs.Members.{In, Ordered, head_of}
 use Rattle.keymap.specs.Key.{Key, compare_keys, Below, is_below, begins_with, PrefixOf, last_byte}
 use Rattle.keymap.specs.Map.{Entry, Map, Rising, lookup}
 use Rattle.keymap.specs.Queries.{keep, SomeBegins, beginning, longer, least_above, NextAfter}
@@ -234,7 +234,7 @@ module _ (m : Map) (rises : Rising m) (p : Key) where
       let (j, h) = (beginning-iff p m e).0 i in
       (paths_below-iff m p e.0).1 ((nodes-iff m e.0).1 (inr (e, j, prefix_refl e.0)), h)
 
-  pub least_above-valued : (x y : Key) (v : ℕ) → NextIn (paths_below m p) x y → lookup y m ≡ some v → least_above x (beginning p m) ≡ some (y, v)
+  pub least_above-valued : (x y : Key) (v : ℕ) → NextIn (paths_below m p) x y → lookup y m ≡ Some v → least_above x (beginning p m) ≡ Some (y, v)
   least_above-valued x y v n h =
       (least_above-some x (beginning p m) (beginning-rising p m rises) (y, v)).1
       (record {
@@ -243,7 +243,7 @@ module _ (m : Map) (rises : Rising m) (p : Key) where
         least = λ d j b. n.least d.0 (entry-below d j) b;
       })
 
-  pub least_above-unvalued : (x y : Key) → NextIn (paths_below m p) x y → lookup y m ≡ none → least_above x (beginning p m) ≡ least_above y (beginning p m)
+  pub least_above-unvalued : (x y : Key) → NextIn (paths_below m p) x y → lookup y m ≡ None → least_above x (beginning p m) ≡ least_above y (beginning p m)
   least_above-unvalued x y n h = go (least_above y (beginning p m)) refl
     where
       -- an entry above x is above y, which has none
@@ -253,8 +253,8 @@ module _ (m : Map) (rises : Rising m) (p : Key) where
       beyond e i b (KeyOrder.above u w) = absurd (n.least e.0 (entry-below e i) b w)
 
       go : (o : Option Entry) → least_above y (beginning p m) ≡ o → least_above x (beginning p m) ≡ o
-      go none s = (least_above-none x (beginning p m)).1 (λ e i b. (least_above-none y (beginning p m)).0 s e i (beyond e i b (key_order y e.0)))
-      go (some e) s =
+      go None s = (least_above-none x (beginning p m)).1 (λ e i b. (least_above-none y (beginning p m)).0 s e i (beyond e i b (key_order y e.0)))
+      go (Some e) s =
           let f : NextAfter y (beginning p m) e = (least_above-some y (beginning p m) (beginning-rising p m rises) e).0 s in
           (least_above-some x (beginning p m) (beginning-rising p m rises) e).1
           (record {
@@ -263,7 +263,7 @@ module _ (m : Map) (rises : Rising m) (p : Key) where
             least = λ d j b. f.least d j (beyond d j b (key_order y d.0));
           })
 
-  pub least_above-last : (x : Key) → LastIn (paths_below m p) x → least_above x (beginning p m) ≡ none
+  pub least_above-last : (x : Key) → LastIn (paths_below m p) x → least_above x (beginning p m) ≡ None
   least_above-last x n = (least_above-none x (beginning p m)).1 (λ e i b. n e.0 (entry-below e i) b)
 
   -- from the top on, the two listings go on alike
@@ -274,20 +274,20 @@ module _ (m : Map) (rises : Rising m) (p : Key) where
       beyond e i b = (longer-beginning p m e).1 (i, λ s. below_irrefl p (prefix-under p x p h (rw s at b)))
 
       go : (o : Option Entry) → least_above x (beginning p m) ≡ o → least_above x (longer p m) ≡ o
-      go none s = (least_above-none x (longer p m)).1 (λ e i b. (least_above-none x (beginning p m)).0 s e ((longer-beginning p m e).0 i).0 b)
-      go (some e) s =
+      go None s = (least_above-none x (longer p m)).1 (λ e i b. (least_above-none x (beginning p m)).0 s e ((longer-beginning p m e).0 i).0 b)
+      go (Some e) s =
           let f : NextAfter x (beginning p m) e = (least_above-some x (beginning p m) (beginning-rising p m rises) e).0 s in
           (least_above-some x (longer p m) (longer-rising p m rises) e).1
           (record { entry = beyond e f.entry f.above; above = f.above; least = λ d j b. f.least d ((longer-beginning p m d).0 j).0 b })
 
   -- and the postfix listing begins with what stands above the top
-  pub head-longer : head? (longer p m) ≡ least_above p (beginning p m)
+  pub head-longer : head_of (longer p m) ≡ least_above p (beginning p m)
   unfolding least_above
   head-longer =
       let all : keep (λ (e : Entry). is_below p e.0) (longer p m) ≡ longer p m =
       keep_all (λ (e : Entry). is_below p e.0) (longer p m)
       (λ e i. let (j, h, l) = (longer-iff p m e).0 i in (above-iff p e.0).1 (prefix-below p e.0 h l)) in
-      ap head? (sym all) ∙ least_above-longer p (prefix_refl p)
+      ap head_of (sym all) ∙ least_above-longer p (prefix_refl p)
 
 -- ---- how many are left
 

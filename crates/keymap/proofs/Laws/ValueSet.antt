@@ -10,7 +10,8 @@ use Prim.Native.Nat.{ℕ, suc, ◌-◌}
 use native.Mathlib.Omega.{arith}
 use mathlib.Core.List.Memᴰ
 use mathlib.Core.List.{List, [], ◌∷◌, map}
-use mathlib.Core.Option.{some, none-ne-some}
+use Rattle.std.specs.Prelude.{Some}
+use Rattle.std.proofs.lemmas.Option.{none-some}
 use lib.ListN.{length, set}
 use Rattle.keymap.specs.Members.{In, here, there, Distinct}
 use Rattle.keymap.specs.Key.{Key, begins_with, Below, last_byte}
@@ -55,7 +56,7 @@ map-set f g q v own other (p ∷ ps) o i = go (dec_key q p) (λ j. map-set f g q
         let e = other p (λ s. n (sym s)) in
         rw (index_of-past q p ps n) (λ x. e x ∷ r x)
 
-module _ (m : Map) (c : Catalogue m) (q : Key) (v w : ℕ) (present : lookup q m ≡ some w) where
+module _ (m : Map) (c : Catalogue m) (q : Key) (v w : ℕ) (present : lookup q m ≡ Some w) where
   rising-after : Rising (insert q v m)
   rising-after = insert-rising q v m c.rising
 
@@ -107,7 +108,7 @@ module _ (m : Map) (c : Catalogue m) (q : Key) (v w : ℕ) (present : lookup q m
       ∙ ap (λ (n : ℕ). set (map (λ (p : Key). value_word (lookup p m)) (prefixes m)) n v) index
     where
       named : ¬ (q ≡ [])
-      named e = none-ne-some w (sym (lookup-empty m c.proper) ∙ ap (λ (p : Key). lookup p m) (sym e) ∙ present)
+      named e = none-some w (sym (lookup-empty m c.proper) ∙ ap (λ (p : Key). lookup p m) (sym e) ∙ present)
 
       own : value_word (lookup q (insert q v m)) ≡ v
       own = rw (lookup-insert-same q v m)

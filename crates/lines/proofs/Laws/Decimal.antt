@@ -18,7 +18,7 @@ use mathlib.Core.Path.{◌≡◌, refl, sym, ap, ◌∙◌}
 use Prim.Native.Nat.{ℕ, zero, suc, ◌+◌, ◌*◌, ◌-◌, ◌/◌, ◌%◌, ◌^◌, ◌≤◌, ◌<◌}
 use mathlib.Core.Bool.{Bool, true, false, not, ◌&&◌, and-false, true≢false}
 use mathlib.Core.List.{List, [], ◌∷◌, ◌++◌, append_assoc, append-nil}
-use mathlib.Core.Option.{none, some}
+use Rattle.std.specs.Prelude.{None, Some}
 use native.Mathlib.Nat.{pow-suc, one-le-pow}
 use native.Mathlib.Omega.{arith}
 use native.Mathlib.Numerals.{add-one}
@@ -240,27 +240,27 @@ obeyed-is_decimal t h =
       in-range = ltb-true _ _ range.1;
     }
 
-pub number_in-obeyed : (t : List ℕ) → Obeyed t → number_in t ≡ some (value_after 0 t)
+pub number_in-obeyed : (t : List ℕ) → Obeyed t → number_in t ≡ Some (value_after 0 t)
 unfolding number_in
 number_in-obeyed t o = rw (is_decimal-obeyed t o)
 
-pub number_in-broken : (t : List ℕ) → ¬ Obeyed t → number_in t ≡ none
+pub number_in-broken : (t : List ℕ) → ¬ Obeyed t → number_in t ≡ None
 unfolding number_in
 number_in-broken t h = go (is_decimal t) refl
   where
-    go : (b : Bool) → is_decimal t ≡ b → number_in t ≡ none
+    go : (b : Bool) → is_decimal t ≡ b → number_in t ≡ None
     go true e = absurd (h (obeyed-is_decimal t e))
     go false e = rw e
 
-pub number_in-some : (t : List ℕ) (n : ℕ) → number_in t ≡ some n → Obeyed t × (value_after 0 t ≡ n)
+pub number_in-some : (t : List ℕ) (n : ℕ) → number_in t ≡ Some n → Obeyed t × (value_after 0 t ≡ n)
 unfolding number_in
 number_in-some t n h = go (is_decimal t) refl
   where
     go : (b : Bool) → is_decimal t ≡ b → Obeyed t × (value_after 0 t ≡ n)
-    go true e = (obeyed-is_decimal t e, let v : some (value_after 0 t) ≡ some n = rw e at h in cc)
-    go false e = absurd (let v : none ≡ some n = rw e at h in let z : ◌≡◌ {A = ℕ} 0 1 = cc in omega arith)
+    go true e = (obeyed-is_decimal t e, let v : Some (value_after 0 t) ≡ Some n = rw e at h in cc)
+    go false e = absurd (let v : None ≡ Some n = rw e at h in let z : ◌≡◌ {A = ℕ} 0 1 = cc in omega arith)
 
-pub number_in-decimal : (n : ℕ) → n < value_limit → number_in (decimal n) ≡ some n
+pub number_in-decimal : (n : ℕ) → n < value_limit → number_in (decimal n) ≡ Some n
 number_in-decimal n h =
     number_in-obeyed (decimal n) (record {
       some-digit = length-decimal-some n;
@@ -269,7 +269,7 @@ number_in-decimal n h =
       all_digits = are_digits-decimal n;
       in-range = rw value_after-decimal h;
     })
-    ∙ ap some (value_after-decimal n)
+    ∙ ap Some (value_after-decimal n)
 
 obeyed-digits : (t : List ℕ) → Obeyed t → t ≡ decimal (value_after 0 t)
 unfolding leading_zero value_after
@@ -291,23 +291,23 @@ obeyed-digits (b ∷ c ∷ t) o =
     go : ¬ (b ≡ zero_digit) → zero_digit ≤ b → 1 ≤ 0 * 10 + (b - zero_digit)
     go n l = omega arith
 
-pub number_in-one : (t : List ℕ) (n : ℕ) → number_in t ≡ some n → t ≡ decimal n
+pub number_in-one : (t : List ℕ) (n : ℕ) → number_in t ≡ Some n → t ≡ decimal n
 number_in-one t n h = let k = number_in-some t n h in obeyed-digits t k.0 ∙ ap decimal k.1
 
-pub number_in-below : (t : List ℕ) (n : ℕ) → number_in t ≡ some n → n < value_limit
+pub number_in-below : (t : List ℕ) (n : ℕ) → number_in t ≡ Some n → n < value_limit
 number_in-below t n h = let k = number_in-some t n h in rw (← k.1) k.0.in-range
 
-pub number_in-empty : (t : List ℕ) → length t ≡ 0 → number_in t ≡ none
+pub number_in-empty : (t : List ℕ) → length t ≡ 0 → number_in t ≡ None
 number_in-empty t h = number_in-broken t (λ o. omega arith)
 
-pub number_in-long : (t : List ℕ) → most_digits < length t → number_in t ≡ none
+pub number_in-long : (t : List ℕ) → most_digits < length t → number_in t ≡ None
 number_in-long t h = number_in-broken t (λ o. omega arith)
 
-pub number_in-zero : (t : List ℕ) → leading_zero t ≡ true → number_in t ≡ none
+pub number_in-zero : (t : List ℕ) → leading_zero t ≡ true → number_in t ≡ None
 number_in-zero t h = number_in-broken t (λ o. true≢false (sym h ∙ o.no-leading-zero))
 
-pub number_in-other : (t : List ℕ) → are_digits t ≡ false → number_in t ≡ none
+pub number_in-other : (t : List ℕ) → are_digits t ≡ false → number_in t ≡ None
 number_in-other t h = number_in-broken t (λ o. true≢false (sym o.all_digits ∙ h))
 
-pub number_in-large : (t : List ℕ) → value_limit ≤ value_after 0 t → number_in t ≡ none
+pub number_in-large : (t : List ℕ) → value_limit ≤ value_after 0 t → number_in t ≡ None
 number_in-large t h = number_in-broken t (λ o. omega arith)

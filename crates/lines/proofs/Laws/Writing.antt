@@ -13,7 +13,7 @@ use mathlib.Core.Logic.{◌↔◌}
 use Prim.Native.Nat.{ℕ, ◌+◌}
 use mathlib.Core.Bool.{false}
 use mathlib.Core.List.{List, [], ◌∷◌, ◌++◌, map, append_assoc}
-use mathlib.Core.Option.{some}
+use Rattle.std.specs.Prelude.{Some}
 use native.Mathlib.Omega.{arith}
 use lib.ListN.{length, length-append}
 use Rattle.keymap.specs.Map.{Entry}
@@ -31,7 +31,7 @@ pub length-tab_text : (e : Entry) → length (tab_text e) ≡ length e.0 + lengt
 unfolding tab_text tab_line
 length-tab_text e = simp length-append (omega arith)
 
-pub tab_entry-tab_line : (e : Entry) → Plain e → tab_entry (tab_line e) ≡ some e
+pub tab_entry-tab_line : (e : Entry) → Plain e → tab_entry (tab_line e) ≡ Some e
 unfolding tab_line
 tab_entry-tab_line e p =
     let k : List ℕ = e.0 in
@@ -39,17 +39,17 @@ tab_entry-tab_line e p =
     tab_entry-parts (k ++ (tab ∷ d)) (holds-join k d p.no-tab) (rw (key_part-join k d p.no-tab) p.no-lf)
     ∙ rw (key_part-join k d p.no-tab, number_part-join k d p.no-tab, number_in-decimal e.1 p.value)
 
-pub tab_entry-one : (line : List ℕ) (e : Entry) → tab_entry line ≡ some e → line ≡ tab_line e
+pub tab_entry-one : (line : List ℕ) (e : Entry) → tab_entry line ≡ Some e → line ≡ tab_line e
 unfolding tab_line
 tab_entry-one line e h =
     let s = tab_entry-some line e h in
     line-parts line s.has-tab ∙ rw (← s.key, number_in-one (number_part line) e.1 s.number)
 
-pub tab_entry-text : (line : List ℕ) (e : Entry) → tab_entry line ≡ some e → line ++ (line_feed ∷ []) ≡ tab_text e
+pub tab_entry-text : (line : List ℕ) (e : Entry) → tab_entry line ≡ Some e → line ++ (line_feed ∷ []) ≡ tab_text e
 unfolding tab_text
 tab_entry-text line e h = ap (λ (l : List ℕ). l ++ (line_feed ∷ [])) (tab_entry-one line e h)
 
-pub tab_entry-plain : (line : List ℕ) (e : Entry) → tab_entry line ≡ some e → Plain e
+pub tab_entry-plain : (line : List ℕ) (e : Entry) → tab_entry line ≡ Some e → Plain e
 unfolding key_part
 tab_entry-plain line e h =
     let s = tab_entry-some line e h in
@@ -59,7 +59,7 @@ tab_entry-plain line e h =
       value = number_in-below (number_part line) e.1 s.number;
     }
 
-pub tab_entry-iff : (line : List ℕ) (e : Entry) → (tab_entry line ≡ some e) ↔ (Plain e × (line ≡ tab_line e))
+pub tab_entry-iff : (line : List ℕ) (e : Entry) → (tab_entry line ≡ Some e) ↔ (Plain e × (line ≡ tab_line e))
 tab_entry-iff line e = (λ h. (tab_entry-plain line e h, tab_entry-one line e h), λ h. ap tab_entry h.1 ∙ tab_entry-tab_line e h.0)
 
 holds-tab_line : (e : Entry) → holds line_feed e.0 ≡ false → holds line_feed (tab_line e) ≡ false
@@ -72,10 +72,10 @@ lines_of-map_text [] p = refl
 lines_of-map_text (e ∷ m) p =
     rw (append_assoc, lines_of-ended (tab_line e) (map_text m) (holds-tab_line e p.0.no-lf), lines_of-map_text m p.1)
 
-pub entries_of-map_text : (m : List Entry) → AllPlain m → entries_of (map_text m) ≡ map (λ (e : Entry). some e) m
+pub entries_of-map_text : (m : List Entry) → AllPlain m → entries_of (map_text m) ≡ map (λ (e : Entry). Some e) m
 unfolding entries_of entry_lines
 entries_of-map_text m p = rw (lines_of-map_text m p) (each m p)
   where
-    each : (m : List Entry) → AllPlain m → map tab_entry (map tab_line m) ≡ map (λ (e : Entry). some e) m
+    each : (m : List Entry) → AllPlain m → map tab_entry (map tab_line m) ≡ map (λ (e : Entry). Some e) m
     each [] p = refl
     each (e ∷ m) p = rw (tab_entry-tab_line e p.0, each m p.1)

@@ -18,12 +18,12 @@ use mathlib.Core.Logic.{inr, ⊎_elim}
 use Prim.Native.Nat.{ℕ, zero, suc, ◌<◌}
 use native.Mathlib.Omega.{arith}
 use mathlib.Core.Bool.{Bool, true, false, cond, ◌&&◌, false≢true}
-use mathlib.Core.List.{[], ◌∷◌, head?}
-use mathlib.Core.Option.{Option, none, some}
+use mathlib.Core.List.{[], ◌∷◌}
+use Rattle.std.specs.Prelude.{Option, None, Some}
 use lib.ListN.{length, get_or}
 use lib.Dec.{ltb}
 use borrow.Author.Tests.{ltb-true, lt-ltb}
-use Rattle.keymap.specs.Members.{In, here}
+use Rattle.keymap.specs.Members.{In, here, head_of}
 use Rattle.keymap.specs.Answers.{given}
 use Rattle.keymap.specs.Refusals.{refuses, NotAnImage, BadPlace}
 use Rattle.keymap.specs.Key.{Key, begins_with, PrefixOf, extends}
@@ -105,30 +105,30 @@ module _ (m : Map) (rises : Rising m) where
 
   -- ---- which nodes are keys of the set
 
-  pub given-unvalued : (kind : Kind) (p x : Key) → lookup x m ≡ none → given (lookup x (set_of m kind p)) ≡ false
+  pub given-unvalued : (kind : Kind) (p x : Key) → lookup x m ≡ None → given (lookup x (set_of m kind p)) ≡ false
   given-unvalued kinds.Predictive p x e = go (begins_with p x) (lookup-beginning p m rises x)
     where
-      go : (t : Bool) → lookup x (beginning p m) ≡ cond t (lookup x m) none → given (lookup x (beginning p m)) ≡ false
+      go : (t : Bool) → lookup x (beginning p m) ≡ cond t (lookup x m) None → given (lookup x (beginning p m)) ≡ false
       go true f = ap given (f ∙ e)
       go false f = ap given f
   given-unvalued kinds.Postfix p x e = go (extends p x) (lookup-longer p m rises x)
     where
-      go : (t : Bool) → lookup x (longer p m) ≡ cond t (lookup x m) none → given (lookup x (longer p m)) ≡ false
+      go : (t : Bool) → lookup x (longer p m) ≡ cond t (lookup x m) None → given (lookup x (longer p m)) ≡ false
       go true f = ap given (f ∙ e)
       go false f = ap given f
 
-  module _ (p x : Key) (v : ℕ) (e : lookup x m ≡ some v) where
+  module _ (p x : Key) (v : ℕ) (e : lookup x m ≡ Some v) where
     pub given-predictive : given (lookup x (set_of m kinds.Predictive p)) ≡ begins_with p x
     given-predictive = go (begins_with p x) (lookup-beginning p m rises x)
       where
-        go : (t : Bool) → lookup x (beginning p m) ≡ cond t (lookup x m) none → given (lookup x (beginning p m)) ≡ t
+        go : (t : Bool) → lookup x (beginning p m) ≡ cond t (lookup x m) None → given (lookup x (beginning p m)) ≡ t
         go true f = ap given (f ∙ e)
         go false f = ap given f
 
     pub given-postfix : given (lookup x (set_of m kinds.Postfix p)) ≡ extends p x
     given-postfix = go (extends p x) (lookup-longer p m rises x)
       where
-        go : (t : Bool) → lookup x (longer p m) ≡ cond t (lookup x m) none → given (lookup x (longer p m)) ≡ t
+        go : (t : Bool) → lookup x (longer p m) ≡ cond t (lookup x m) None → given (lookup x (longer p m)) ≡ t
         go true f = ap given (f ∙ e)
         go false f = ap given f
 
@@ -149,8 +149,8 @@ module _ (m : Map) (kind : Kind) (top last : ℕ) where
   belongs-under r h n = go last n ((both_true (is_node m top) (last_belongs m (set_of m kind (path_of m top)) last)).0 h).1
     where
       found : (k : ℕ) → IsNode m k → (o : Option ℕ) → lookup (path_of m k) (set_of m kind (path_of m top)) ≡ o → given o ≡ true → UnderTop m top k
-      found k i none e g = absurd (false≢true g)
-      found k i (some v) e g =
+      found k i None e g = absurd (false≢true g)
+      found k i (Some v) e g =
           let member = (lookup-iff (path_of m k) v (set_of m kind (path_of m top)) (set_of-rising m r kind (path_of m top))).0 e in
           record { top-inside = belongs-top h; inside = i; begins = (set_of-in m r kind (path_of m top) (path_of m k, v) member).1 }
 
@@ -163,13 +163,13 @@ module _ (m : Map) (kind : Kind) (top last : ℕ) where
 -- ---- what the next step gives
 
 module _ (m : Map) (c : Catalogue m) (top : ℕ) (inside : IsNode m top) where
-  pub head-valued : (v : ℕ) → lookup (path_of m top) m ≡ some v → given_by m (head? (beginning (path_of m top) m)) ≡ gives.Entry top v
+  pub head-valued : (v : ℕ) → lookup (path_of m top) m ≡ Some v → given_by m (head_of (beginning (path_of m top) m)) ≡ gives.Entry top v
   head-valued v e =
-      ap (λ (n : Map). given_by m (head? n)) (beginning-present (path_of m top) v m c.rising e)
+      ap (λ (n : Map). given_by m (head_of n)) (beginning-present (path_of m top) v m c.rising e)
       ∙ ap (λ (k : ℕ). gives.Entry k v) (node_of-path_of m c.rising top inside)
 
-  pub head-unvalued : lookup (path_of m top) m ≡ none → head? (beginning (path_of m top) m) ≡ least_above (path_of m top) (beginning (path_of m top) m)
-  head-unvalued e = ap head? (beginning-absent (path_of m top) m c.rising e) ∙ head-longer m c.rising (path_of m top)
+  pub head-unvalued : lookup (path_of m top) m ≡ None → head_of (beginning (path_of m top) m) ≡ least_above (path_of m top) (beginning (path_of m top) m)
+  head-unvalued e = ap head_of (beginning-absent (path_of m top) m c.rising e) ∙ head-longer m c.rising (path_of m top)
 
   pub under_top : UnderTop m top top
   under_top = record { top-inside = inside; inside = inside; begins = prefix_refl (path_of m top) }
@@ -186,28 +186,28 @@ unfolding is_prefix_in
 keys-longer m p = refl
 
 -- what is given is an entry of the set
-next_in-in : (m : Map) → Rising m → (kind : Kind) (p : Key) (last : ℕ) (e : Entry) → next_in m (set_of m kind p) last ≡ some e → In e (set_of m kind p)
+next_in-in : (m : Map) → Rising m → (kind : Kind) (p : Key) (last : ℕ) (e : Entry) → next_in m (set_of m kind p) last ≡ Some e → In e (set_of m kind p)
 next_in-in m r kind p zero e f = head_in (set_of m kind p) f
 next_in-in m r kind p (suc k) e f = ((least_above-some (path_of m (suc k)) (set_of m kind p) (set_of-rising m r kind p) e).0 f).entry
 
 -- a step's answer, by what was given
 pub says_step-entry : (m : Map) (kind : Kind) (top : ℕ) (o : Option Entry) (k v : ℕ) → given_by m o ≡ gives.Entry k v → says_step m kind top o ≡ 0 ∷ k ∷ v ∷ said_cursor (Open kind top k)
-says_step-entry m kind top none k v e = let z : ◌≡◌ {A = ℕ} 0 1 = cc in absurd (omega arith)
-says_step-entry m kind top (some d) k v e =
+says_step-entry m kind top None k v e = let z : ◌≡◌ {A = ℕ} 0 1 = cc in absurd (omega arith)
+says_step-entry m kind top (Some d) k v e =
     let f : node_of m d.0 ≡ k = cc in
     let g : d.1 ≡ v = cc in
     λ i. 0 ∷ f i ∷ g i ∷ said_cursor (Open kind top (f i))
 
 pub says_step-nothing : (m : Map) (kind : Kind) (top : ℕ) (o : Option Entry) → given_by m o ≡ gives.Nothing → says_step m kind top o ≡ says_end kind
-says_step-nothing m kind top none e = refl
-says_step-nothing m kind top (some d) e = let z : ◌≡◌ {A = ℕ} 0 1 = cc in absurd (omega arith)
+says_step-nothing m kind top None e = refl
+says_step-nothing m kind top (Some d) e = let z : ◌≡◌ {A = ℕ} 0 1 = cc in absurd (omega arith)
 
 pub given_inside : (m : Map) → Rising m → (kind : Kind) (p : Key) (last k v : ℕ) → given_by m (next_in m (set_of m kind p) last) ≡ gives.Entry k v → IsNode m k
 given_inside m r kind p last k v e = go (next_in m (set_of m kind p) last) refl e
   where
     go : (o : Option Entry) → next_in m (set_of m kind p) last ≡ o → given_by m o ≡ gives.Entry k v → IsNode m k
-    go none f g = let z : ◌≡◌ {A = ℕ} 0 1 = cc in absurd (omega arith)
-    go (some d) f g =
+    go None f g = let z : ◌≡◌ {A = ℕ} 0 1 = cc in absurd (omega arith)
+    go (Some d) f g =
         let own : In d.0 (nodes m) = entry-path m d (set_of-in m r kind p d (next_in-in m r kind p last d f)).0 in
         let at : node_of m d.0 ≡ k = cc in
         rw at at (node_of-node m d.0 own)

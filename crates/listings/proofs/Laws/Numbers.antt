@@ -14,8 +14,9 @@ use Prim.Native.Nat.{ℕ, zero, suc, ◌≤◌, ◌<◌}
 use native.Mathlib.Decide.{ℕ_discrete}
 use native.Mathlib.Omega.{arith}
 use mathlib.Core.Bool.{Bool, true, false, cond, ◌&&◌}
-use mathlib.Core.List.{List, head?}
-use mathlib.Core.Option.{Option, none, some}
+use mathlib.Core.List.{List}
+use Rattle.keymap.specs.Members.{head_of}
+use Rattle.std.specs.Prelude.{Option, None, Some}
 use lib.ListN.{length}
 use borrow.Author.Tests.{lt-ltb, le-ltb, eq-eqb, ne_eqb}
 use Rattle.keymap.specs.Answers.{given}
@@ -54,11 +55,11 @@ use Rattle.listings.proofs.Laws.GivenKey.{given_key-behind}
 
 module _ (ls vs : List ℕ) (b : ℕ → ℕ) (len : ℕ) where
   module _ (top node : ℕ) where
-    pub in_set_by-unvalued : (kind : Kind) → value_of_node ls vs node ≡ none → in_set_by ls vs b len kind top node ≡ false
+    pub in_set_by-unvalued : (kind : Kind) → value_of_node ls vs node ≡ None → in_set_by ls vs b len kind top node ≡ false
     unfolding in_set_by
     in_set_by-unvalued kind e = rw e
 
-    module _ (v : ℕ) (held : value_of_node ls vs node ≡ some v) where
+    module _ (v : ℕ) (held : value_of_node ls vs node ≡ Some v) where
       pub in_set_by-predictive : in_set_by ls vs b len kinds.Predictive top node ≡ below_by b len top node
       unfolding in_set_by
       in_set_by-predictive = rw held
@@ -99,11 +100,11 @@ module _ (ls vs : List ℕ) (b : ℕ → ℕ) (len : ℕ) where
             go (suc k) d f = rw f
 
   module _ (top : ℕ) where
-    pub first_given_by-held : (v : ℕ) → value_of_node ls vs top ≡ some v → first_given_by ls vs b len top ≡ some (top, v)
+    pub first_given_by-held : (v : ℕ) → value_of_node ls vs top ≡ Some v → first_given_by ls vs b len top ≡ Some (top, v)
     unfolding first_given_by
     first_given_by-held v e = rw e
 
-    pub first_given_by-bare : value_of_node ls vs top ≡ none → first_given_by ls vs b len top ≡ next_by ls vs b len top top
+    pub first_given_by-bare : value_of_node ls vs top ≡ None → first_given_by ls vs b len top ≡ next_by ls vs b len top top
     unfolding first_given_by
     first_given_by-bare e = rw e
 
@@ -121,11 +122,11 @@ module _ (ls vs : List ℕ) (b : ℕ → ℕ) (len : ℕ) where
     next_given_by-postfix kind last z e = rw (z, e)
 
 module _ (ls : List ℕ) (b : ℕ → ℕ) (len : ℕ) (kind : Kind) (q : Key) where
-  pub start_by-lost : walked ls b len q ≡ none → start_by ls b len kind q ≡ Finished kind
+  pub start_by-lost : walked ls b len q ≡ None → start_by ls b len kind q ≡ Finished kind
   unfolding start_by
   start_by-lost e = ap (start_from ls b len kind) e
 
-  module _ (k : ℕ) (ended : walked ls b len q ≡ some k) where
+  module _ (k : ℕ) (ended : walked ls b len q ≡ Some k) where
     pub start_by-far : number_limit ≤ k → start_by ls b len kind q ≡ Finished kind
     unfolding start_by
     start_by-far l = ap (start_from ls b len kind) ended ∙ rw (le-ltb k number_limit l)
@@ -163,7 +164,7 @@ module _ (i : Image) (h : MapImage i) where
       len : ℕ
       len = bits_for (entries i)
 
-      apart : (v : ℕ) → lookup x m ≡ some v → Dec (node ≡ top) → in_set_by ls vs b len kinds.Postfix top node ≡ given (lookup x (set_of m kinds.Postfix p))
+      apart : (v : ℕ) → lookup x m ≡ Some v → Dec (node ≡ top) → in_set_by ls vs b len kinds.Postfix top node ≡ given (lookup x (set_of m kinds.Postfix p))
       apart v e (yes same) =
           in_set_by-own ls vs b len top node v (node-value i h node n ∙ e) same
           ∙ sym (given-postfix m h.catalogue.rising p x v e ∙ ap (λ (k : ℕ). extends p (path_of m k)) same ∙ extends-own p)
@@ -173,12 +174,12 @@ module _ (i : Image) (h : MapImage i) where
           ∙ sym (given-postfix m h.catalogue.rising p x v e ∙ extends-other p x (λ f. d (path_of-one m h.catalogue.rising node top n t f)))
 
       go : (kind : Kind) (o : Option ℕ) → lookup x m ≡ o → in_set_by ls vs b len kind top node ≡ given (lookup x (set_of m kind p))
-      go kind none e = in_set_by-unvalued ls vs b len top node kind (node-value i h node n ∙ e) ∙ sym (given-unvalued m h.catalogue.rising kind p x e)
-      go kinds.Predictive (some v) e =
+      go kind None e = in_set_by-unvalued ls vs b len top node kind (node-value i h node n ∙ e) ∙ sym (given-unvalued m h.catalogue.rising kind p x e)
+      go kinds.Predictive (Some v) e =
           in_set_by-predictive ls vs b len top node v (node-value i h node n ∙ e)
           ∙ below-path i h top node t n
           ∙ sym (given-predictive m h.catalogue.rising p x v e)
-      go kinds.Postfix (some v) e = apart v e (ℕ_discrete node top)
+      go kinds.Postfix (Some v) e = apart v e (ℕ_discrete node top)
 
   pub stands-path : (kind : Kind) (top last : ℕ)
       → stands_by i.labels i.values (bit i.words) (bits_for (entries i)) kind top last ≡ belongs (image_map i) (Open kind top last)
@@ -205,18 +206,18 @@ module _ (i : Image) (h : MapImage i) where
       go true e = later ((is_node-iff m top).0 e) last
 
   first-path : (top : ℕ) → IsNode (image_map i) top
-      → given_of (first_given_by i.labels i.values (bit i.words) (bits_for (entries i)) top) ≡ given_by (image_map i) (head? (beginning (path_of (image_map i) top) (image_map i)))
+      → given_of (first_given_by i.labels i.values (bit i.words) (bits_for (entries i)) top) ≡ given_by (image_map i) (head_of (beginning (path_of (image_map i) top) (image_map i)))
   first-path top n = go (lookup (path_of m top) m) refl
     where
       m : Map
       m = image_map i
 
       go : (o : Option ℕ) → lookup (path_of m top) m ≡ o
-          → given_of (first_given_by i.labels i.values (bit i.words) (bits_for (entries i)) top) ≡ given_by m (head? (beginning (path_of m top) m))
-      go (some v) e =
+          → given_of (first_given_by i.labels i.values (bit i.words) (bits_for (entries i)) top) ≡ given_by m (head_of (beginning (path_of m top) m))
+      go (Some v) e =
           ap given_of (first_given_by-held i.labels i.values (bit i.words) (bits_for (entries i)) top v (node-value i h top n ∙ e))
           ∙ sym (head-valued m h.catalogue top n v e)
-      go none e =
+      go None e =
           ap given_of (first_given_by-bare i.labels i.values (bit i.words) (bits_for (entries i)) top (node-value i h top n ∙ e))
           ∙ next-path i h top top (under_top m h.catalogue top n)
           ∙ sym (ap (given_by m) (head-unvalued m h.catalogue top n e))

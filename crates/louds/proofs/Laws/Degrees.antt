@@ -6,17 +6,16 @@
 --     children-pack       the same of the words of a sequence
 --
 -- Assumes nothing.
+use Rattle.std.specs.Prelude.{Some}
 use Rattle.std.proofs.Common.{◌≡◌, ℕ, zero, suc, ◌+◌, ◌<◌, ◌≤◌, List, [], ◌∷◌, length, get_or, take, sym, refl, ap, ◌∙◌, ap₂, le_of_suc-le-suc, not-suc-le-zero, le_of_lt, add-one, arith}
 use Rattle.keymap.specs.Bits.{bit, pack}
 use Rattle.keymap.specs.Degrees.{unary, total, sequence}
 use Rattle.keymap.proofs.Laws.Sums.{sum_below-zero, sum_below-suc, sum_below-first, sum_below-add, sum_below-ext, sum_below-none, in_list}
 use Rattle.keymap.proofs.Laws.Bits.{bit-pack}
 use Rattle.keymap.proofs.Laws.Degrees.{sequence-unary, unary-one, unary-past, sequence-small, length-unary, total-take}
-use Rattle.louds.specs.declared.answers.Spot.TheVariants.{At}
-use Rattle.louds.specs.declared.answers.Children.TheVariants.{Run}
 use Rattle.louds.specs.Rank.{gap, zeros_before}
 use Rattle.louds.specs.Select.{zero_at}
-use Rattle.louds.specs.Nodes.{children_of}
+use Rattle.louds.specs.Nodes.{Run, children_of}
 use Rattle.louds.proofs.Laws.Rank.{gap-one, gap-zero, gap-ext, gap-small}
 use Rattle.louds.proofs.Laws.Select.{kth-rank}
 use Rattle.louds.proofs.Laws.Nodes.{children-to-zero, children-agree}
@@ -67,7 +66,7 @@ zero_in (d ∷ ds) (suc j) h =
       inside = omega (arith, q, r.inside, length-unary (d ∷ ds), length-unary ds);
     }
 
-zero_at-unary : (ds : List ℕ) (j : ℕ) → j < length ds → zero_at (in_list (unary ds)) (length (unary ds)) (j + 1) ≡ At (total (take (suc j) ds) + j)
+zero_at-unary : (ds : List ℕ) (j : ℕ) → j < length ds → zero_at (in_list (unary ds)) (length (unary ds)) (j + 1) ≡ Some (total (take (suc j) ds) + j)
 zero_at-unary ds j h =
     let b = in_list (unary ds) in
     let q : ℕ = total (take (suc j) ds) + j in
@@ -75,9 +74,9 @@ zero_at-unary ds j h =
     ap (λ (x : ℕ). zero_at b (length (unary ds)) (x + 1)) (sym z.rank)
     ∙ kth-rank (gap b) (gap-small b) (length (unary ds)) q z.inside (gap-zero b q z.zero-there)
 
-pub zero_at-sequence : (ds : List ℕ) (j : ℕ) → j ≤ length ds → zero_at (λ i. get_or (sequence ds) i 0) (length (sequence ds)) (j + 1) ≡ At (total (take j ds) + j + 1)
+pub zero_at-sequence : (ds : List ℕ) (j : ℕ) → j ≤ length ds → zero_at (λ i. get_or (sequence ds) i 0) (length (sequence ds)) (j + 1) ≡ Some (total (take j ds) + j + 1)
 unfolding total
-zero_at-sequence ds j h = rw (sequence-unary ds) (zero_at-unary (1 ∷ ds) j (omega arith) ∙ ap At (omega arith))
+zero_at-sequence ds j h = rw (sequence-unary ds) (zero_at-unary (1 ∷ ds) j (omega arith) ∙ ap Some (omega arith))
 
 -- ---- the children
 
@@ -88,7 +87,7 @@ children-sequence ds j h =
     let len : ℕ = length (sequence ds) in
     let p : ℕ = total (take j ds) + j + 1 in
     let q : ℕ = total (take (suc j) ds) + suc j + 1 in
-    let next : zero_at b len (j + 1 + 1) ≡ At q = ap (λ (x : ℕ). zero_at b len (x + 1)) (add-one j) ∙ zero_at-sequence ds (suc j) h in
+    let next : zero_at b len (j + 1 + 1) ≡ Some q = ap (λ (x : ℕ). zero_at b len (x + 1)) (add-one j) ∙ zero_at-sequence ds (suc j) h in
     let more : total (take (suc j) ds) ≡ total (take j ds) + get_or ds j 0 = sym (total-take ds (suc j)) ∙ sum_below-suc (in_list ds) j ∙ ap (λ (x : ℕ). x + get_or ds j 0) (total-take ds j) in
     (children-to-zero b (sequence-small ds) len (j + 1) p q (zero_at-sequence ds j (le_of_lt h)) next).1
     ∙ ap₂ Run (omega arith) (omega (arith, more))

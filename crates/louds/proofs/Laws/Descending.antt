@@ -11,6 +11,7 @@
 --     descended-at       which is the answer
 --
 -- Assumes nothing.
+use Rattle.std.specs.Prelude.{None, Some}
 use Rattle.std.proofs.Common.{◌≡◌, ℕ, ◌+◌, ◌-◌, ◌*◌, ◌/◌, ◌%◌, ◌^◌, ◌<◌, ◌≤◌, List, length, get_or, sym, ap, ◌∙◌, zero-le, le_refl, lt_of_lt_of_le, mod-eq_of_lt, lt_of_not-le, arith}
 use native.Mathlib.Nat.{mod-one, zero-mod}
 use native.Mathlib.Decide.{dec_le}
@@ -20,7 +21,6 @@ use Rattle.keymap.specs.Limits.{word_bits}
 use Rattle.keymap.specs.Bits.{bit, sum_below}
 use Rattle.keymap.proofs.Laws.Sums.{sum_below-zero, sum_below-add, sum_below-ext}
 use Rattle.keymap.proofs.Laws.Bits.{bit-small, bit_in}
-use Rattle.louds.specs.declared.answers.Spot.TheVariants.{At, Missing}
 use Rattle.louds.specs.Digits.{digit}
 use Rattle.louds.specs.Select.{kth, one_back}
 use Rattle.louds.proofs.Laws.Rank.{ones-zeros}
@@ -85,7 +85,7 @@ module _ (ws : List ℕ) (from k : ℕ) where
       own = omega (arith, few);
     }
 
-    pub descended-none : w ≡ 0 → seen < k → Missing ≡ one_back (bit ws) from k
+    pub descended-none : w ≡ 0 → seen < k → None ≡ one_back (bit ws) from k
     descended-none z few =
         let start : sum_below (bit ws) (w * word_bits) ≡ 0 = ap (λ (u : ℕ). sum_below (bit ws) (u * word_bits)) z ∙ sum_below-zero (bit ws) in
         let short : sum_below (bit ws) from + 1 - k ≡ 0 = omega (arith, d.sum, start, few) in
@@ -95,7 +95,7 @@ module _ (ws : List ℕ) (from k : ℕ) where
     pub descended-own : 0 < k → k ≤ seen → (0 < seen - (k - 1)) × (seen - (k - 1) ≤ ones x)
     descended-own h enough = (omega (arith, h, enough), omega (arith, h, enough, d.own))
 
-    module _ (p : ℕ) (h : 0 < k) (enough : k ≤ seen) (is : kth (digit x) word_bits (seen - (k - 1)) ≡ At p) where
+    module _ (p : ℕ) (h : 0 < k) (enough : k ≤ seen) (is : kth (digit x) word_bits (seen - (k - 1)) ≡ Some p) where
       f : Found (digit x) word_bits (seen - (k - 1)) p
       f = kth-told (digit x) word_bits (seen - (k - 1)) p is
 
@@ -112,7 +112,7 @@ module _ (ws : List ℕ) (from k : ℕ) where
       pub descended-near : w * word_bits + p < from
       descended-near = omega (arith, within, d.ends)
 
-      pub descended-at : At (w * word_bits + p) ≡ one_back (bit ws) from k
+      pub descended-at : Some (w * word_bits + p) ≡ one_back (bit ws) from k
       descended-at =
           let below = sum_below-add (bit ws) (w * word_bits) p ∙ ap (λ (y : ℕ). sum_below (bit ws) (w * word_bits) + y) (sym (sum_below-ext (digit x) (λ t. bit ws (w * word_bits + t)) p (λ t l. here t (omega (arith, l, within))))) in
           sym

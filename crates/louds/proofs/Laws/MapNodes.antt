@@ -5,6 +5,7 @@
 --     child-label       where among them the child with a label stands
 --     parent-node       the number of a node's parent
 -- Assumes nothing.
+use Rattle.std.specs.Prelude.{Some}
 use Rattle.std.proofs.Common.{◌≡◌, ℕ, zero, suc, ◌+◌, ◌<◌, ◌≤◌, List, [], ◌∷◌, ◌++◌, map, length, get_or, take, sym, refl, ap, ◌∙◌, ap₂, arith}
 use lib.ListN.{length-map}
 use Rattle.keymap.specs.Key.{Key}
@@ -21,8 +22,7 @@ use Rattle.keymap.proofs.Laws.Bits.{bit-small}
 use Rattle.keymap.proofs.Laws.Degrees.{total-take}
 use Rattle.keymap.proofs.Laws.Image.{length-image_bits}
 use Rattle.keymap.proofs.Laws.Paths.{degree_at, get_d_map, index_of-in, path_of-child, children-room, children_in-iff, node_of-node, path_of-node_of, node_of-path_of}
-use Rattle.louds.specs.declared.answers.Children.TheVariants.{Run}
-use Rattle.louds.specs.declared.answers.Up.TheVariants.{Node}
+use Rattle.louds.specs.Nodes.{Run}
 use Rattle.louds.specs.Nodes.{children_of, parent_of}
 use Rattle.louds.proofs.Laws.Nodes.{parent-of-child}
 use Rattle.louds.proofs.Laws.Degrees.{children-pack}
@@ -92,7 +92,7 @@ module _ (m : Map) (c : Catalogue m) where
       }
 
   pub parent-node : (p : Key) (a : ℕ) → In p (nodes m) → SomeBegins (p ++ (a ∷ [])) m
-      → parent_of (map_bits m) (map_length m) (node_of m (p ++ (a ∷ []))) ≡ Node (node_of m p)
+      → parent_of (map_bits m) (map_length m) (node_of m (p ++ (a ∷ []))) ≡ Some (node_of m p)
   parent-node p a i b =
       let k : ℕ = node_of m p in
       let d = children-node k (node_of-node m p i) in

@@ -16,6 +16,7 @@
 --     none_before                             before them there is nothing
 --
 -- Assumes nothing.
+use Rattle.std.specs.Prelude.{None, Some}
 use Rattle.std.proofs.Common.{◌≡◌, ℕ, zero, suc, ◌+◌, ◌-◌, ◌*◌, ◌/◌, ◌%◌, ◌^◌, ◌<◌, ◌≤◌, List, get_or, sym, refl, ap, ◌∙◌, zero-le, lt_of_lt_of_le, mod-eq_of_lt, add_comm, lt_of_not-le, one-add, arith, pow_pos}
 use native.Mathlib.Nat.{mod-one, zero-div}
 use native.Mathlib.Decide.{dec_le}
@@ -25,7 +26,6 @@ use Rattle.keymap.specs.Limits.{word_bits}
 use Rattle.keymap.specs.Bits.{bit, sum_below, number}
 use Rattle.keymap.proofs.Laws.Sums.{sum_below-zero, sum_below-suc, sum_below-add, sum_below-mono, sum_below-ext, sum_below-none}
 use Rattle.keymap.proofs.Laws.Bits.{bit_in, number_lt, digit-number}
-use Rattle.louds.specs.declared.answers.Spot.TheVariants.{At, Missing}
 use Rattle.louds.specs.Digits.{digit, complement, above}
 use Rattle.louds.specs.Rank.{gap}
 use Rattle.louds.specs.Select.{kth, onward, marks}
@@ -86,19 +86,19 @@ module _ (m : ℕ → ℕ) (small : (i : ℕ) → m i ≤ 1) (w : ℕ) where
     pub before : sum_below m (w * word_bits + p) < k
     pub upto : k ≤ sum_below m (w * word_bits + p) + m (w * word_bits + p)
 
-  pub look : (left k p : ℕ) → sum_below m (w * word_bits) + left ≡ k → kth (digit (mark_word m w)) word_bits left ≡ At p → Look k p
+  pub look : (left k p : ℕ) → sum_below m (w * word_bits) + left ≡ k → kth (digit (mark_word m w)) word_bits left ≡ Some p → Look k p
   look left k p sum is =
       let f = kth-told (digit (mark_word m w)) word_bits left p is in
       let sums = below p (omega (arith, f.inside)) in
       record { inside = f.inside; before = omega (arith, sums, sum, f.before); upto = omega (arith, sums, sum, mark_word-digit p f.inside, f.upto) }
 
-  pub look-inside : (len k p : ℕ) → Look k p → p < len - w * word_bits → At (w * word_bits + p) ≡ kth m len k
+  pub look-inside : (len k p : ℕ) → Look k p → p < len - w * word_bits → Some (w * word_bits + p) ≡ kth m len k
   look-inside len k p l h = sym (kth-at m len (w * word_bits + p) k (omega (arith, h)) l.before l.upto)
 
-  pub look-past : (len k p : ℕ) → Look k p → (p < len - w * word_bits → ⊥) → Missing ≡ kth m len k
+  pub look-past : (len k p : ℕ) → Look k p → (p < len - w * word_bits → ⊥) → None ≡ kth m len k
   look-past len k p l h = sym (kth-none m len k (omega (arith, l.before, sum_below-mono m {i = len} {j = w * word_bits + p} (omega (arith, h)))))
 
-  pub none_left : (len k left : ℕ) → len / word_bits ≤ w → sum_below m (w * word_bits) + left ≡ k → ones (mark_word m w) < left → Missing ≡ kth m len k
+  pub none_left : (len k left : ℕ) → len / word_bits ≤ w → sum_below m (w * word_bits) + left ≡ k → ones (mark_word m w) < left → None ≡ kth m len k
   none_left len k left h sum few = sym (kth-none m len k (omega (arith, sum, few, mark_word-ones, sum_below-mono m {i = len} {j = (w + 1) * word_bits} (omega (arith, h)))))
 
 -- ---- the bits of one value

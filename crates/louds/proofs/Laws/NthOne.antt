@@ -12,6 +12,7 @@
 --     from_byte               the j-th one by the digits from a place on
 --
 -- Assumes nothing.
+use Rattle.std.specs.Prelude.{None, Option, Some, unwrap_or}
 use Rattle.std.proofs.Common.{◌≡◌, ℕ, zero, suc, ◌+◌, ◌-◌, ◌*◌, ◌/◌, ◌%◌, ◌^◌, ◌<◌, ◌≤◌, sym, refl, ap, ◌∙◌, ap₂, lt_of_lt_of_le, lt_of_le_of_lt, mod-eq_of_lt, add-one, one-add, arith, lit<, lit≤, pow_mono}
 use native.Mathlib.Decide.{dec_le}
 use lib.Pow.{shr_le}
@@ -19,11 +20,8 @@ use lib.Bits.{bit_and, and_lt, and_mask}
 use lib.Count.{ones, ones-le, count_trailing_zeros}
 use Rattle.keymap.specs.Limits.{word_bits}
 use Rattle.keymap.specs.Bits.{sum_below}
-use Rattle.louds.specs.declared.answers.Spot.{Spot}
-use Rattle.louds.specs.declared.answers.Spot.TheVariants.{At, Missing}
 use Rattle.louds.specs.Digits.{digit, above}
 use Rattle.louds.specs.Taking.{low_bits, top_bits}
-use Rattle.louds.specs.Nodes.{or_end}
 use Rattle.louds.specs.Select.{kth}
 use Rattle.louds.proofs.Laws.Words.{ones_low}
 use Rattle.louds.proofs.Laws.Select.{kth-at, kth-none, kth-exists, kth-told, Found}
@@ -207,11 +205,10 @@ module _ (x j : ℕ) (wide : x < 2 ^ word_bits) where
 
   module _ (left rest : ℕ) (p : Picking x j left rest) where
     -- nothing is left, so there are fewer
-    pub picking-none : rest ≡ 0 → word_bits ≡ or_end word_bits (kth (digit x) word_bits j)
-    unfolding or_end
+    pub picking-none : rest ≡ 0 → word_bits ≡ unwrap_or (kth (digit x) word_bits j) word_bits
     picking-none none =
         let flat = ones-flat x word_bits p.place p.low (λ t a b. above-end x p.place t (sym p.cleared ∙ none) a) in
-        sym (ap (or_end word_bits) (kth-none (digit x) word_bits j (omega (arith, ones_low x word_bits, flat, p.sum, p.some))))
+        sym (ap (λ (o : Option ℕ). unwrap_or o word_bits) (kth-none (digit x) word_bits j (omega (arith, ones_low x word_bits, flat, p.sum, p.some))))
 
     module _ (more : rest ≡ 0 → ⊥) where
       lowest-left : Turn x p.place rest
@@ -229,34 +226,30 @@ module _ (x j : ℕ) (wide : x < 2 ^ word_bits) where
         some = omega (arith, p.some, h);
       }
 
-      pub picking-last : left ≡ 1 → count_trailing_zeros word_bits rest ≡ or_end word_bits (kth (digit x) word_bits j)
-      unfolding or_end
+      pub picking-last : left ≡ 1 → count_trailing_zeros word_bits rest ≡ unwrap_or (kth (digit x) word_bits j) word_bits
       picking-last last =
           let before = ones_low x lowest-left.place in
           lowest-left.is-lowest
-          ∙ ap (or_end word_bits)
+          ∙ ap (λ (o : Option ℕ). unwrap_or o word_bits)
           (sym
           (kth-at (digit x) word_bits lowest-left.place j lowest-left.inside (omega (arith, before, none_between, p.sum, p.some))
           (omega (arith, before, none_between, p.sum, last, lowest-left.one))))
 
 -- ---- an answer that is no 64
 
-pub end-at : (s : Spot) (p : ℕ) → p ≡ or_end word_bits s → (p ≡ word_bits → ⊥) → s ≡ At p
-unfolding or_end
-end-at (At q) p is l = ap At (sym is)
-end-at Missing p is l = absurd (l is)
+pub end-at : (s : (Option ℕ)) (p : ℕ) → p ≡ unwrap_or s word_bits → (p ≡ word_bits → ⊥) → s ≡ Some p
+end-at (Some q) p is l = ap Some (sym is)
+end-at None p is l = absurd (l is)
 
 -- a word that has so many
-pub has-kth : (x j p : ℕ) → x < 2 ^ word_bits → 0 < j → j ≤ ones x → p ≡ or_end word_bits (kth (digit x) word_bits j) → kth (digit x) word_bits j ≡ At p
-unfolding or_end
+pub has-kth : (x j p : ℕ) → x < 2 ^ word_bits → 0 < j → j ≤ ones x → p ≡ unwrap_or (kth (digit x) word_bits j) word_bits → kth (digit x) word_bits j ≡ Some p
 has-kth x j p wide some enough is = at (kth-exists (digit x) word_bits j some (omega (arith, enough, ones_low x word_bits, ap ones (mod-eq_of_lt wide))))
   where
-    at : (q : ℕ) × Found (digit x) word_bits j q → kth (digit x) word_bits j ≡ At p
-    at f = f.1.answer ∙ ap At (sym (is ∙ ap (or_end word_bits) f.1.answer))
+    at : (q : ℕ) × Found (digit x) word_bits j q → kth (digit x) word_bits j ≡ Some p
+    at f = f.1.answer ∙ ap Some (sym (is ∙ ap (λ (o : Option ℕ). unwrap_or o word_bits) f.1.answer))
 
 -- a word that has fewer
-pub end-few : (x j : ℕ) → x < 2 ^ word_bits → 0 < j → word_bits ≡ or_end word_bits (kth (digit x) word_bits j) → ones x < j
-unfolding or_end
+pub end-few : (x j : ℕ) → x < 2 ^ word_bits → 0 < j → word_bits ≡ unwrap_or (kth (digit x) word_bits j) word_bits → ones x < j
 end-few x j wide some is = go (dec_le j (ones x))
   where
     go : Dec (j ≤ ones x) → ones x < j
@@ -280,7 +273,7 @@ module _ (x j start p : ℕ) (wide : x < 2 ^ word_bits) (fewer : ones (x % 2 ^ s
       ∙ ones-parts x start word_bits
       ∙ ap (λ (y : ℕ). ones (x % 2 ^ start) + ones y) (mod-eq_of_lt from-wide)
 
-  pub from_byte : p ≡ or_end word_bits (kth (digit from_start) word_bits (j - ones (x % 2 ^ start))) → kth (digit x) word_bits j ≡ At (start + p)
+  pub from_byte : p ≡ unwrap_or (kth (digit from_start) word_bits (j - ones (x % 2 ^ start))) word_bits → kth (digit x) word_bits j ≡ Some (start + p)
   from_byte is = kth-at (digit x) word_bits (start + p) j inside (omega (arith, before, f.before)) (omega (arith, before, one, f.upto))
     where
       f : Found (digit from_start) word_bits (j - ones (x % 2 ^ start)) p

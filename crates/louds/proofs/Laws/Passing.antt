@@ -13,6 +13,7 @@
 --     zeros-at, zeros-short, no-zeros  where all bits are zeros
 --
 -- Assumes nothing.
+use Rattle.std.specs.Prelude.{None, Some, unwrap_or}
 use Rattle.std.proofs.Common.{◌≡◌, ℕ, zero, suc, ◌+◌, ◌-◌, ◌*◌, ◌/◌, ◌%◌, ◌^◌, ◌<◌, ◌≤◌, min, List, length, sym, refl, ap, ◌∙◌, ⊎_elim, zero-le, le_refl, lt_of_lt_of_le, mod-lt, mod-eq_of_lt, eq-zero-or-pos, lt_of_not-le, arith, pow_pos}
 use native.Mathlib.Nat.{min-le_right}
 use native.Mathlib.Decide.{dec_le}
@@ -21,9 +22,7 @@ use Rattle.keymap.specs.Limits.{word_bits}
 use Rattle.keymap.specs.Bits.{bit, sum_below}
 use Rattle.keymap.proofs.Laws.Sums.{sum_below-mono, sum_below-none}
 use Rattle.keymap.proofs.Laws.Bits.{bit-small, bit-beyond}
-use Rattle.louds.specs.declared.answers.Spot.TheVariants.{At, Missing}
 use Rattle.louds.specs.Digits.{digit, above}
-use Rattle.louds.specs.Nodes.{or_end}
 use Rattle.louds.specs.Select.{kth, onward, marks, bit_from}
 use Rattle.louds.proofs.Laws.Rank.{gap-zero, ones-zeros}
 use Rattle.louds.proofs.Laws.Digits.{above_wide}
@@ -40,7 +39,7 @@ going_on m len from k a left h some sum =
     ∙ sym (kth-onward m from len k (omega (arith, some, sum)))
 
 -- from its end on a sequence has nothing
-pub nothing-behind : (ws : List ℕ) (len v from k : ℕ) → len ≤ from → Missing ≡ bit_from (bit ws) len v from k
+pub nothing-behind : (ws : List ℕ) (len v from k : ℕ) → len ≤ from → None ≡ bit_from (bit ws) len v from k
 nothing-behind ws len v from k h = sym (kth-bare (onward from (marks (bit ws) v)) len k (λ i l. onward-before (marks (bit ws) v) from i (lt_of_lt_of_le l h)))
 
 pub zeros-beyond : (ws : List ℕ) (len v a k : ℕ) → length ws ≤ a / word_bits → bit_from (λ i. 0) len v a k ≡ bit_from (bit ws) len v a k
@@ -101,7 +100,7 @@ module _ (ws : List ℕ) (len v from k : ℕ) where
     }
 
     -- the sequence ends in a word that has too few
-    pub passed-short : len / word_bits ≤ w → ones x < left → Missing ≡ bit_from (bit ws) len v from k
+    pub passed-short : len / word_bits ≤ w → ones x < left → None ≡ bit_from (bit ws) len v from k
     passed-short h few = none_left sought sought-small w len k left h p.sum (omega (arith, few, same-ones))
 
     -- the words end
@@ -111,14 +110,14 @@ module _ (ws : List ℕ) (len v from k : ℕ) where
         ∙ going_on (marks (bit ws) v) len from k ((w + 1) * word_bits) rest (omega (arith, p.behind)) l (omega (arith, mark_word-ones sought sought-small w, same-ones, fewer, p.sum))
 
     -- the word has it
-    module _ (t : ℕ) (is : kth (digit x) word_bits left ≡ At t) where
+    module _ (t : ℕ) (is : kth (digit x) word_bits left ≡ Some t) where
       looked : Look sought sought-small w k t
       looked = look sought sought-small w left k t p.sum (ap (λ (y : ℕ). kth (digit y) word_bits left) (sym p.word) ∙ is)
 
-      pub passed-at : t < len - w * word_bits → At (w * word_bits + t) ≡ bit_from (bit ws) len v from k
+      pub passed-at : t < len - w * word_bits → Some (w * word_bits + t) ≡ bit_from (bit ws) len v from k
       passed-at h = look-inside sought sought-small w len k t looked h
 
-      pub passed-past : (t < len - w * word_bits → ⊥) → Missing ≡ bit_from (bit ws) len v from k
+      pub passed-past : (t < len - w * word_bits → ⊥) → None ≡ bit_from (bit ws) len v from k
       passed-past h = look-past sought sought-small w len k t looked h
 
   -- the same in the word of the place alone
@@ -129,16 +128,16 @@ module _ (ws : List ℕ) (len v from k : ℕ) where
     abbrev end : ℕ
     end = min len ((from / word_bits + 1) * word_bits)
 
-    pub near_none : word_bits ≡ or_end word_bits (kth (digit first) word_bits k) → Missing ≡ bit_from (bit ws) end v from k
+    pub near_none : word_bits ≡ unwrap_or (kth (digit first) word_bits k) word_bits → None ≡ bit_from (bit ws) end v from k
     near_none none = sym (⊎_elim (λ z. ap (kth sought end) z ∙ kth-zero sought end) few (eq-zero-or-pos k))
       where
-        few : 0 < k → kth sought end k ≡ Missing
+        few : 0 < k → kth sought end k ≡ None
         few some =
             let fewer = end-few first k (mod-lt (x / 2 ^ (from % word_bits) * 2 ^ (from % word_bits)) (pow_pos word_bits)) some none in
             let ends = sum_below-mono sought {i = end} {j = (from / word_bits + 1) * word_bits} (min-le_right len ((from / word_bits + 1) * word_bits)) in
             kth-none sought end k (omega (arith, fewer, ends, ap ones (first_marks x is), mark_word-ones sought sought-small (from / word_bits), none_before (marks (bit ws) v) from))
 
-    module _ (p : ℕ) (at : kth (digit first) word_bits k ≡ At p) where
+    module _ (p : ℕ) (at : kth (digit first) word_bits k ≡ Some p) where
       looked-near : Look sought sought-small (from / word_bits) k p
       looked-near =
           look sought sought-small (from / word_bits) k k p (omega (arith, none_before (marks (bit ws) v) from)) (ap (λ (y : ℕ). kth (digit y) word_bits k) (sym (first_marks x is)) ∙ at)
@@ -146,10 +145,10 @@ module _ (ws : List ℕ) (len v from k : ℕ) where
       pub near-inside : p < word_bits
       near-inside = looked-near.inside
 
-      pub near-at : from / word_bits * word_bits + p < len → At (from / word_bits * word_bits + p) ≡ bit_from (bit ws) end v from k
+      pub near-at : from / word_bits * word_bits + p < len → Some (from / word_bits * word_bits + p) ≡ bit_from (bit ws) end v from k
       near-at h = look-inside sought sought-small (from / word_bits) end k p looked-near (omega (arith, h, near-inside))
 
-      pub near-past : (from / word_bits * word_bits + p < len → ⊥) → Missing ≡ bit_from (bit ws) end v from k
+      pub near-past : (from / word_bits * word_bits + p < len → ⊥) → None ≡ bit_from (bit ws) end v from k
       near-past h = look-past sought sought-small (from / word_bits) end k p looked-near (λ l. omega (arith, h, l, near-inside))
 
 -- ---- where all bits are zeros
@@ -162,7 +161,7 @@ zero-mark : (i : ℕ) → marks (λ j. 0) 0 i ≡ 1
 unfolding marks
 zero-mark i = gap-zero (λ j. 0) i refl
 
-pub zeros-at : (len from k : ℕ) → 0 < k → k ≤ len - from → At (from + (k - 1)) ≡ bit_from (λ i. 0) len 0 from k
+pub zeros-at : (len from k : ℕ) → 0 < k → k ≤ len - from → Some (from + (k - 1)) ≡ bit_from (λ i. 0) len 0 from k
 zeros-at len from k some h =
     let m = marks (λ j. 0) 0 in
     sym
@@ -170,7 +169,7 @@ zeros-at len from k some h =
     ∙ kth-at m len (from + (k - 1)) (sum_below m from + k) (omega (arith, some, h)) (omega (arith, some, zero-marks from, zero-marks (from + (k - 1))))
     (omega (arith, some, zero-marks from, zero-marks (from + (k - 1)), zero-mark (from + (k - 1)))))
 
-pub zeros-short : (len from k : ℕ) → 0 < k → len - from < k → Missing ≡ bit_from (λ i. 0) len 0 from k
+pub zeros-short : (len from k : ℕ) → 0 < k → len - from < k → None ≡ bit_from (λ i. 0) len 0 from k
 zeros-short len from k some h =
     let m = marks (λ j. 0) 0 in
     sym (kth-onward m from len k some ∙ kth-none m len (sum_below m from + k) (omega (arith, some, h, zero-marks from, zero-marks len)))
@@ -181,7 +180,7 @@ no-mark zero h i = absurd (h refl)
 no-mark (suc zero) h i = refl
 no-mark (suc (suc v)) h i = refl
 
-pub no-zeros : (len v from k : ℕ) → (v ≡ 0 → ⊥) → Missing ≡ bit_from (λ i. 0) len v from k
+pub no-zeros : (len v from k : ℕ) → (v ≡ 0 → ⊥) → None ≡ bit_from (λ i. 0) len v from k
 no-zeros len v from k other = sym (kth-bare (onward from (marks (λ i. 0) v)) len k (λ i l. bare i (dec_le from i)))
   where
     bare : (i : ℕ) → Dec (from ≤ i) → onward from (marks (λ j. 0) v) i ≡ 0

@@ -25,20 +25,20 @@
 --     marks-one       the marks of the ones
 --
 -- Assumes nothing.
+use Rattle.std.specs.Prelude.{None, Some}
 use Rattle.std.proofs.Common.{◌≡◌, ℕ, zero, suc, ◌+◌, ◌-◌, ◌<◌, ◌≤◌, ◌⊎◌, sym, refl, ap, ◌∙◌, subst, inl, inr, ⊎_elim, zero-le, le_trans, lt_of_le_of_lt, lt-suc_self, eq-zero-or-pos, lt_of_not-le, not-le_of_lt, arith, le-leb}
 use native.Mathlib.Nat.{le-suc}
 use native.Mathlib.Decide.{le_ind, dec_le}
 use borrow.Author.Tests.{lt-leb}
 use Rattle.keymap.specs.Bits.{sum_below}
 use Rattle.keymap.proofs.Laws.Sums.{sum_below-zero, sum_below-suc, sum_below-next, sum_below-add, sum_below-mono, sum_below-lt, sum_below-ext, sum_below-none}
-use Rattle.louds.specs.declared.answers.Spot.TheVariants.{At, Missing}
 use Rattle.louds.specs.Rank.{gap}
 use Rattle.louds.specs.Select.{kth, onward, marks}
 
 module _ (m : ℕ → ℕ) where
   -- ---- what settles the answer
 
-  kth-here : (p k : ℕ) → sum_below m p < k → k ≤ sum_below m (suc p) → kth m (suc p) k ≡ At p
+  kth-here : (p k : ℕ) → sum_below m p < k → k ≤ sum_below m (suc p) → kth m (suc p) k ≡ Some p
   unfolding kth
   kth-here p k a b = simp (lt-leb _ _ a, le-leb _ _ b)
 
@@ -46,17 +46,17 @@ module _ (m : ℕ → ℕ) where
   unfolding kth
   kth-step n k a = simp (le-leb _ _ a)
 
-  pub kth-at : (len p k : ℕ) → p < len → sum_below m p < k → k ≤ sum_below m p + m p → kth m len k ≡ At p
+  pub kth-at : (len p k : ℕ) → p < len → sum_below m p < k → k ≤ sum_below m p + m p → kth m len k ≡ Some p
   kth-at len p k h a b =
       let upto : k ≤ sum_below m (suc p) = omega (arith, sum_below-suc m p) in
-      le_ind (λ (n : ℕ). kth m n k ≡ At p) (kth-here p k a upto) (λ n l e. kth-step n k (le_trans upto (sum_below-mono m l)) ∙ e) len h
+      le_ind (λ (n : ℕ). kth m n k ≡ Some p) (kth-here p k a upto) (λ n l e. kth-step n k (le_trans upto (sum_below-mono m l)) ∙ e) len h
 
-  pub kth-none : (len k : ℕ) → sum_below m len < k → kth m len k ≡ Missing
+  pub kth-none : (len k : ℕ) → sum_below m len < k → kth m len k ≡ None
   unfolding kth
   kth-none zero k h = refl
   kth-none (suc n) k h = simp (lt-leb _ _ (lt_of_le_of_lt (sum_below-mono m (le-suc n)) h), lt-leb _ _ h)
 
-  pub kth-zero : (len : ℕ) → kth m len 0 ≡ Missing
+  pub kth-zero : (len : ℕ) → kth m len 0 ≡ None
   unfolding kth
   kth-zero zero = refl
   kth-zero (suc n) = kth-step n 0 zero-le ∙ kth-zero n
@@ -64,13 +64,13 @@ module _ (m : ℕ → ℕ) where
   -- ---- what the answer tells
 
   pub record Found (len k p : ℕ) : Type 0 where
-    pub answer : kth m len k ≡ At p
+    pub answer : kth m len k ≡ Some p
     pub inside : p < len
     pub before : sum_below m p < k
     pub upto : k ≤ sum_below m p + m p
 
   pub record Short (len k : ℕ) : Type 0 where
-    pub answer : kth m len k ≡ Missing
+    pub answer : kth m len k ≡ None
     pub few : sum_below m len < k
 
   pub kth-find : (len k : ℕ) → 0 < k → ((p : ℕ) × Found len k p) ⊎ Short len k
@@ -86,10 +86,10 @@ module _ (m : ℕ → ℕ) where
       here l (yes u) = inl (n, record { answer = kth-at (suc n) n k (lt-suc_self n) l u; inside = lt-suc_self n; before = l; upto = u })
       here l (no u) = let few : sum_below m (suc n) < k = omega (arith, sum_below-suc m n) in inr (record { answer = kth-none (suc n) k few; few = few })
 
-  pub kth-told : (len k p : ℕ) → kth m len k ≡ At p → Found len k p
+  pub kth-told : (len k p : ℕ) → kth m len k ≡ Some p → Found len k p
   kth-told len k p e = ⊎_elim (λ z. absurd (never (ap (kth m len) z ∙ kth-zero len))) (λ h. ⊎_elim same (λ s. absurd (never s.answer)) (kth-find len k h)) (eq-zero-or-pos k)
     where
-      never : kth m len k ≡ Missing → ⊥
+      never : kth m len k ≡ None → ⊥
       never q = let z : ◌≡◌ {A = ℕ} 0 1 = cc in omega arith
 
       same : (q : ℕ) × Found len k q → Found len k p
@@ -99,13 +99,13 @@ module _ (m : ℕ → ℕ) where
           let z : f.0 ≡ p = cc in
           subst (λ (x : ℕ). Found len k x) z g
 
-  pub kth-longer : (short len k p : ℕ) → short ≤ len → kth m short k ≡ At p → kth m len k ≡ At p
+  pub kth-longer : (short len k p : ℕ) → short ≤ len → kth m short k ≡ Some p → kth m len k ≡ Some p
   kth-longer short len k p h e = let f = kth-told short k p e in kth-at len p k (le_trans f.inside h) f.before f.upto
 
-  pub kth-missing : (len k : ℕ) → 0 < k → kth m len k ≡ Missing → sum_below m len < k
+  pub kth-missing : (len k : ℕ) → 0 < k → kth m len k ≡ None → sum_below m len < k
   kth-missing len k h e = ⊎_elim (λ f. absurd (never f.0 f.1.answer)) (λ s. s.few) (kth-find len k h)
     where
-      never : (p : ℕ) → kth m len k ≡ At p → ⊥
+      never : (p : ℕ) → kth m len k ≡ Some p → ⊥
       never p q = let z : ◌≡◌ {A = ℕ} 0 1 = cc in omega arith
 
   pub kth-exists : (len k : ℕ) → 0 < k → k ≤ sum_below m len → (p : ℕ) × Found len k p
@@ -117,7 +117,7 @@ module _ (m : ℕ → ℕ) where
     pub rank : sum_below m p + 1 ≡ k
     pub marked : m p ≡ 1
 
-pub kth-bare : (m : ℕ → ℕ) (len k : ℕ) → ((i : ℕ) → i < len → m i ≡ 0) → kth m len k ≡ Missing
+pub kth-bare : (m : ℕ → ℕ) (len k : ℕ) → ((i : ℕ) → i < len → m i ≡ 0) → kth m len k ≡ None
 kth-bare m len k none = ⊎_elim (λ z. ap (kth m len) z ∙ kth-zero m len) (λ s. kth-none m len k (omega (arith, s, sum_below-none m len none))) (eq-zero-or-pos k)
 
 pub kth-ext : (m n : ℕ → ℕ) (len k : ℕ) → ((j : ℕ) → j < len → m j ≡ n j) → kth m len k ≡ kth n len k
@@ -137,21 +137,21 @@ kth-ext m n len k same = ⊎_elim (λ z. ap (kth m len) z ∙ kth-zero m len ∙
 
 -- ---- rank and select undo each other
 module _ (m : ℕ → ℕ) (small : (i : ℕ) → m i ≤ 1) where
-  pub rank-kth : (len k p : ℕ) → kth m len k ≡ At p → Stands m len k p
+  pub rank-kth : (len k p : ℕ) → kth m len k ≡ Some p → Stands m len k p
   rank-kth len k p e =
       let f = kth-told m len k p e in
       record { inside = f.inside; rank = omega (arith, f, small p); marked = omega (arith, f, small p) }
 
-  pub kth-rank : (len p : ℕ) → p < len → m p ≡ 1 → kth m len (sum_below m p + 1) ≡ At p
+  pub kth-rank : (len p : ℕ) → p < len → m p ≡ 1 → kth m len (sum_below m p + 1) ≡ Some p
   kth-rank len p h e = kth-at m len p (sum_below m p + 1) h (omega arith) (omega arith)
 
-  pub kth-mono : (len j k p q : ℕ) → kth m len j ≡ At p → kth m len k ≡ At q → j < k → p < q
+  pub kth-mono : (len j k p q : ℕ) → kth m len j ≡ Some p → kth m len k ≡ Some q → j < k → p < q
   kth-mono len j k p q e f l =
       let s = rank-kth len j p e in
       let t = rank-kth len k q f in
       sum_below-lt m p q (omega (arith, s, t, l))
 
-  pub kth-back : (len j k p q : ℕ) → kth m len j ≡ At p → kth m len k ≡ At q → j < k → kth m q (sum_below m q + 1 - (k - j)) ≡ At p
+  pub kth-back : (len j k p q : ℕ) → kth m len j ≡ Some p → kth m len k ≡ Some q → j < k → kth m q (sum_below m q + 1 - (k - j)) ≡ Some p
   kth-back len j k p q e f l =
       let s = rank-kth len j p e in
       let t = rank-kth len k q f in
@@ -198,7 +198,7 @@ module _ (m : ℕ → ℕ) (from : ℕ) where
 pub kth-start : (m : ℕ → ℕ) (len k : ℕ) → kth (onward 0 m) len k ≡ kth m len k
 kth-start m len k = kth-ext (onward 0 m) m len k (λ j l. onward-at m 0 j zero-le)
 
-pub kth-next : (m : ℕ → ℕ) (small : (i : ℕ) → m i ≤ 1) (len j k p : ℕ) → kth m len j ≡ At p → 0 < k → kth (onward (p + 1) m) len k ≡ kth m len (j + k)
+pub kth-next : (m : ℕ → ℕ) (small : (i : ℕ) → m i ≤ 1) (len j k p : ℕ) → kth m len j ≡ Some p → 0 < k → kth (onward (p + 1) m) len k ≡ kth m len (j + k)
 kth-next m small len j k p e h =
     let s = rank-kth m small len j p e in
     kth-onward m (p + 1) len k h ∙ ap (kth m len) (omega (arith, s, sum_below-next m p))

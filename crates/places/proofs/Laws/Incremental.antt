@@ -18,7 +18,7 @@ use Prim.Native.Nat.{ℕ, zero, suc, ◌+◌, ◌-◌, ◌≤◌, ◌<◌}
 use native.Mathlib.Omega.{arith}
 use mathlib.Core.Bool.{Bool, true, false, cond, true≢false}
 use mathlib.Core.List.{List, [], ◌∷◌, ◌++◌, append_assoc, append-nil}
-use mathlib.Core.Option.{Option, none, some}
+use Rattle.std.specs.Prelude.{Option, None, Some}
 use lib.ListN.{length, take}
 use Rattle.keymap.specs.Members.{In, here}
 use Rattle.keymap.specs.Key.{Key, PrefixOf}
@@ -58,18 +58,18 @@ answer-tells m p a e = go (is_prefix_in p m) refl (lookup p m) refl a e
     go b f w g x said = rw (f, g) (told b w x (said ∙ path_says-is m p b w f g))
       where
         told : (b : Bool) (w : Option ℕ) (x : Answer) → said_answer x ≡ cond b 1 0 + cond (given w) 2 0 → (tells_prefix x ≡ b) × (tells_match x ≡ given w)
-        told true none Prefix e = (refl, refl)
-        told true none Match e = absurd (omega arith)
-        told true none PrefixAndMatch e = absurd (omega arith)
-        told true (some v) Prefix e = absurd (omega arith)
-        told true (some v) Match e = absurd (omega arith)
-        told true (some v) PrefixAndMatch e = (refl, refl)
-        told false none Prefix e = absurd (omega arith)
-        told false none Match e = absurd (omega arith)
-        told false none PrefixAndMatch e = absurd (omega arith)
-        told false (some v) Prefix e = absurd (omega arith)
-        told false (some v) Match e = (refl, refl)
-        told false (some v) PrefixAndMatch e = absurd (omega arith)
+        told true None Prefix e = (refl, refl)
+        told true None Match e = absurd (omega arith)
+        told true None PrefixAndMatch e = absurd (omega arith)
+        told true (Some v) Prefix e = absurd (omega arith)
+        told true (Some v) Match e = absurd (omega arith)
+        told true (Some v) PrefixAndMatch e = (refl, refl)
+        told false None Prefix e = absurd (omega arith)
+        told false None Match e = absurd (omega arith)
+        told false None PrefixAndMatch e = absurd (omega arith)
+        told false (Some v) Prefix e = absurd (omega arith)
+        told false (Some v) Match e = (refl, refl)
+        told false (Some v) PrefixAndMatch e = absurd (omega arith)
 
 -- a node but the root has a path that some key begins with
 some_begins-node : (m : Map) → Rising m → (k : ℕ) → IsNode m k → 2 ≤ k → SomeBegins (path_of m k) m
@@ -79,7 +79,7 @@ some_begins-node m r k n l = ⊎_elim at-root (λ (b : SomeBegins (path_of m k) 
     at-root e = absurd (omega (arith, sym (node_of-path_of m r k n) ∙ ap (node_of m) e ∙ node_of-root m))
 
 -- and no longer key begins with it only where it is a key
-pub leaf-valued : (m : Map) → Rising m → (k : ℕ) → IsNode m k → 2 ≤ k → is_prefix_in (path_of m k) m ≡ false → (v : ℕ) × (lookup (path_of m k) m ≡ some v)
+pub leaf-valued : (m : Map) → Rising m → (k : ℕ) → IsNode m k → 2 ≤ k → is_prefix_in (path_of m k) m ≡ false → (v : ℕ) × (lookup (path_of m k) m ≡ Some v)
 leaf-valued m r k n l e = ends-valued m r (path_of m k) (some_begins-node m r k n l) (bare (children_in m (path_of m k)) (children_in-some m (path_of m k) ∙ e))
   where
     bare : (ps : List Key) → nonempty ps ≡ false → ps ≡ []
@@ -166,7 +166,7 @@ module _ (m : Map) (p : Key) where
   goto-some q w e f g = rw (e, f, g)
 
 -- the longer keys have no value at the path itself
-pub lookup-longer-same : (m : Map) → Rising m → (p : Key) → lookup p (longer p m) ≡ none
+pub lookup-longer-same : (m : Map) → Rising m → (p : Key) → lookup p (longer p m) ≡ None
 lookup-longer-same m r p = lookup-longer p m r p ∙ rw (extends-own p)
 
 -- and the values of the map behind it

@@ -7,7 +7,7 @@ use Prim.Native.Nat.{ℕ, zero, suc, ◌+◌, ◌-◌, ◌≤◌, ◌<◌}
 use native.Mathlib.Omega.{arith}
 use mathlib.Core.Bool.{true, false, cond}
 use mathlib.Core.List.{List, [], ◌∷◌, ◌++◌, append_assoc, append-nil}
-use mathlib.Core.Option.{Option, none, some}
+use Rattle.std.specs.Prelude.{Option, None, Some}
 use lib.ListN.{length, get_or, take, length-append}
 use lib.Seq.{take_all}
 use borrow.Author.Tests.{lt-ltb, le-ltb}
@@ -66,14 +66,14 @@ module _ (i : Image) (h : MapImage i) where
 
       -- with children, by its value
       inner : ¬ (count_from i (stand_in i k) ≡ 0) → is_prefix_in p m ≡ true → (w : Option ℕ) → lookup p m ≡ w → said_answer (answer_by i (stand_in i k)) ≡ path_says m p
-      inner some-kids on none e = ap said_answer (answer-inner i (stand_in i k) none some-kids (node-value i h k n ∙ e)) ∙ sym (path_says-is m p true none on e)
-      inner some-kids on (some v) e = ap said_answer (answer-inner i (stand_in i k) (some v) some-kids (node-value i h k n ∙ e)) ∙ sym (path_says-is m p true (some v) on e)
+      inner some-kids on None e = ap said_answer (answer-inner i (stand_in i k) None some-kids (node-value i h k n ∙ e)) ∙ sym (path_says-is m p true None on e)
+      inner some-kids on (Some v) e = ap said_answer (answer-inner i (stand_in i k) (Some v) some-kids (node-value i h k n ∙ e)) ∙ sym (path_says-is m p true (Some v) on e)
 
       go : (c : ℕ) → count_from i (stand_in i k) ≡ c → said_answer (answer_by i (stand_in i k)) ≡ path_says m p
       go zero e =
           let bare : is_prefix_in p m ≡ false = sym (kids-some i h k n) ∙ le-ltb 0 (count_from i (stand_in i k)) (omega arith) in
           let (v, held) = leaf-valued m h.catalogue.rising k n l bare in
-          ap said_answer (answer-leaf i (stand_in i k) e) ∙ sym (path_says-is m p false (some v) bare held)
+          ap said_answer (answer-leaf i (stand_in i k) e) ∙ sym (path_says-is m p false (Some v) bare held)
       go (suc c) e =
           inner (omega arith) (sym (kids-some i h k n) ∙ lt-ltb 0 (count_from i (stand_in i k)) (omega arith)) (lookup p m) refl
 
@@ -147,12 +147,12 @@ module _ (i : Image) (h : MapImage i) where
       go : PathTold m (p ++ (a ∷ [])) → ((c : ℕ) → IsNode m c → FollowTold c q (j + 1)) → FollowTold k (a ∷ q) j
       go (there on e) ih =
           let c : ℕ = node_of m (p ++ (a ∷ [])) in
-          further c (path_of-node_of m (p ++ (a ∷ [])) on) (follow-next i a q j k (some c) (child-rule i h k n a ∙ e)) (ih c (node_of-node m (p ++ (a ∷ [])) on))
+          further c (path_of-node_of m (p ++ (a ∷ [])) on) (follow-next i a q j k (Some c) (child-rule i h k n a ∙ e)) (ih c (node_of-node m (p ++ (a ∷ [])) on))
       go (absent off e) ih =
           let here : k ≡ node_of m (p ++ []) = sym (ap (node_of m) (append-nil p) ∙ node_of-path_of m h.catalogue.rising k n) in
           let far : j ≡ j + 0 = omega arith in
           stopped 0 (omega arith) (rw (append-nil p) (path_of-in m k n)) off
-          (follow-next i a q j k none (child-rule i h k n a ∙ e) ∙ ap (λ (x : ℕ). follow_stops x k) far ∙ ap (follow_stops (j + 0)) here)
+          (follow-next i a q j k None (child-rule i h k n a ∙ e) ∙ ap (λ (x : ℕ). follow_stops x k) far ∙ ap (follow_stops (j + 0)) here)
 
   module _ (tested : image_test i ≡ true) (k : ℕ) (belongs : is_node (image_map i) k ≡ true) where
     -- so many labels led on
@@ -213,8 +213,8 @@ module _ (i : Image) (h : MapImage i) where
       ap (kid_from b len k (kids_from b len (stand_in i k)).next) first ∙ run.kids-at 0 (omega (arith, one))
 
   gone-says : (w : Option ℕ) (d : ℕ) → said_gone (gone_to w d) ≡ cond (given w) (says_ok d) (says_err d)
-  gone-says none d = refl
-  gone-says (some v) d = refl
+  gone-says None d = refl
+  gone-says (Some v) d = refl
 
   module _ (tested : image_test i ≡ true) (k : ℕ) (belongs : is_node (image_map i) k ≡ true) where
     pub goto-kept : GotoPromise i (place_at k) (goto_by i k).answer (place_at (goto_by i k).node)
@@ -253,7 +253,7 @@ module _ (i : Image) (h : MapImage i) where
             let goes : is_prefix_in p m ≡ true = on (omega (arith, e)) in
             let here_on : common_below m p ≡ p = (common-parted m p two).1 in
             kept _ (goto-several i k (omega (arith, count, e)))
-            (ap says_err (omega arith) ∙ sym (goto-some m p p none goes here_on (lookup-longer-same m h.catalogue.rising p)))
+            (ap says_err (omega arith) ∙ sym (goto-some m p p None goes here_on (lookup-longer-same m h.catalogue.rising p)))
             (rw (goes, here_on) (sym (node_of-path_of m h.catalogue.rising k n)))
         go (single a only e) =
             let c : ℕ = d.first + 0 in

@@ -18,7 +18,7 @@ use native.Mathlib.Numerals.{add-one}
 use native.Mathlib.Omega.{arith}
 use mathlib.Core.Bool.{Bool, true, false}
 use mathlib.Core.List.{List, [], ◌∷◌}
-use mathlib.Core.Option.{Option, none, some}
+use Rattle.std.specs.Prelude.{Option, None, Some}
 use lib.ListN.{length, get_or, drop}
 use lib.Seq.{drop-cons}
 use borrow.Author.Tests.{lt-ltb, le-ltb, eq-eqb, ne_eqb}
@@ -26,7 +26,7 @@ use Rattle.keymap.specs.Key.{Key}
 use Rattle.keymap.specs.Bits.{bit}
 use Rattle.keymap.specs.Image.{Image, bits_for}
 use Rattle.keymap.proofs.Laws.Bits.{bit-small}
-use Rattle.louds.specs.declared.answers.Children.TheVariants.{Run, NoNode}
+use Rattle.louds.specs.Nodes.{Run}
 use Rattle.louds.specs.Nodes.{children_of}
 use Rattle.image.specs.Accept.{entries}
 use Rattle.walks.specs.declared.stands.Stand.{Stand}
@@ -64,11 +64,11 @@ module _ (i : Image) (s : Stand) where
 -- ---- one label
 
 module _ (i : Image) (k a : ℕ) where
-  pub query-missed : child_by i.labels (bit i.words) (bits_for (entries i)) k a ≡ none → query_by i k a ≡ record { answer = queried.NoMatch; node = k }
+  pub query-missed : child_by i.labels (bit i.words) (bits_for (entries i)) k a ≡ None → query_by i k a ≡ record { answer = queried.NoMatch; node = k }
   unfolding query_by
   query-missed e = ap (query_to i k) e
 
-  pub query-found : (m : ℕ) → child_by i.labels (bit i.words) (bits_for (entries i)) k a ≡ some m
+  pub query-found : (m : ℕ) → child_by i.labels (bit i.words) (bits_for (entries i)) k a ≡ Some m
       → query_by i k a ≡ record { answer = queried.Found (answer_by i (stand_in i m)); node = place_number m }
   unfolding query_by
   query-found m e = ap (query_to i k) e
@@ -92,21 +92,21 @@ module _ (i : Image) where
   follow-next a q j k o e = ap (λ (x : Option ℕ). follow_to x (follow_stops j k) (λ (m : ℕ). follow_from i q (j + 1) m)) e
 
   module _ (q : Key) (j k : ℕ) (within : j < length q) where
-    pub follow-stops : child_by i.labels (bit i.words) (bits_for (entries i)) k (get_or q j 0) ≡ none → follow_from i (drop j q) j k ≡ follow_stops j k
-    follow-stops e = ap (λ (r : Key). follow_from i r j k) (drop-cons q j 0 within) ∙ follow-next (get_or q j 0) (drop (suc j) q) j k none e
+    pub follow-stops : child_by i.labels (bit i.words) (bits_for (entries i)) k (get_or q j 0) ≡ None → follow_from i (drop j q) j k ≡ follow_stops j k
+    follow-stops e = ap (λ (r : Key). follow_from i r j k) (drop-cons q j 0 within) ∙ follow-next (get_or q j 0) (drop (suc j) q) j k None e
 
-    pub follow-on : (m : ℕ) → child_by i.labels (bit i.words) (bits_for (entries i)) k (get_or q j 0) ≡ some m
+    pub follow-on : (m : ℕ) → child_by i.labels (bit i.words) (bits_for (entries i)) k (get_or q j 0) ≡ Some m
         → follow_from i (drop j q) j k ≡ follow_from i (drop (j + 1) q) (j + 1) m
     follow-on m e =
         ap (λ (r : Key). follow_from i r j k) (drop-cons q j 0 within)
-        ∙ follow-next (get_or q j 0) (drop (suc j) q) j k (some m) e
+        ∙ follow-next (get_or q j 0) (drop (suc j) q) j k (Some m) e
         ∙ ap (λ (n : ℕ). follow_from i (drop n q) (j + 1) m) (sym (add-one j))
 
 -- ---- to where the keys part
 
 -- the children of node k, as louds answers them
 module _ (i : Image) (k : ℕ) where
-  pub children-lost : children_of (bit i.words) (bits_for (entries i)) k ≡ NoNode → count_from i (stand_in i k) ≡ 0
+  pub children-lost : children_of (bit i.words) (bits_for (entries i)) k ≡ None → count_from i (stand_in i k) ≡ 0
   children-lost e = ap (λ (x : Kids). x.count) (kids-lost (bit i.words) (bit-small i.words) (bits_for (entries i)) k e)
 
   module _ (f c : ℕ) (run : children_of (bit i.words) (bits_for (entries i)) k ≡ Run f c) where
@@ -138,10 +138,10 @@ module _ (i : Image) (k : ℕ) where
 
   -- through the only child, to where the glide ends
   module _ (one : count_from i (stand_in i k) ≡ 1) (g : Glided) (glided : g ≡ glided_from i.labels i.values (bit i.words) (bits_for (entries i)) (only_kid (bit i.words) (bits_for (entries i)) (stand_in i k))) (n : ℕ) (number : n ≡ place_number g.stand.node) where
-    pub goto-key : (v : ℕ) → held_in i g.stand.node ≡ some v → record { answer = gone.Ok (g.steps + 1); node = n } ≡ goto_by i k
+    pub goto-key : (v : ℕ) → held_in i g.stand.node ≡ Some v → record { answer = gone.Ok (g.steps + 1); node = n } ≡ goto_by i k
     goto-key v held = sym (goto-through one ∙ ap (goto_ends i) (sym glided) ∙ (λ x. record { answer = gone_to (held x) (g.steps + 1); node = sym number x }))
 
-    pub goto-parting : held_in i g.stand.node ≡ none → record { answer = gone.Err (g.steps + 1); node = n } ≡ goto_by i k
+    pub goto-parting : held_in i g.stand.node ≡ None → record { answer = gone.Err (g.steps + 1); node = n } ≡ goto_by i k
     goto-parting held = sym (goto-through one ∙ ap (goto_ends i) (sym glided) ∙ (λ x. record { answer = gone_to (held x) (g.steps + 1); node = sym number x }))
 
 -- every step of a glide takes one of its turns

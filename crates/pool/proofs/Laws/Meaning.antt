@@ -14,7 +14,7 @@ use mathlib.Core.Path.{◌≡◌, refl, sym, ◌∙◌, ap, subst}
 use mathlib.Core.Bool.{true, false}
 use mathlib.Core.List.{[], ◌∷◌, ◌++◌, append_assoc, append-nil}
 use mathlib.Core.Logic.{◌⊎◌, inl, inr, ⊎_elim, ◌↔◌}
-use mathlib.Core.Option.{none, some}
+use Rattle.std.specs.Prelude.{None, Some}
 use native.Mathlib.Omega.{arith}
 use native.Mathlib.Nat.{mod-eq_of_lt}
 use lib.ListN.{length, drop}
@@ -116,8 +116,8 @@ module _ (p : Pool) (i b : ℕ) (can : CanEnter p i b) where
     λ h.
         ⊎_elim (λ u. record { at = h.at; used = u; spelled = spells-back 0 k h.at h.spelled u; valued = sym (value-of-kept h.at u) ∙ h.valued })
         (λ (e : h.at ≡ m).
-        let w : record_value q m ≡ some v = subst (λ (c : ℕ). record_value q c ≡ some v) e h.valued in
-        let n : record_value q m ≡ none = rw A.own-entry (simp (lt-leb _ _ can.byte)) in
+        let w : record_value q m ≡ Some v = subst (λ (c : ℕ). record_value q c ≡ Some v) e h.valued in
+        let n : record_value q m ≡ None = rw A.own-entry (simp (lt-leb _ _ can.byte)) in
         let z : ◌≡◌ {A = ℕ} 0 1 = cc in absurd (omega arith))
         (in-use-taken p q A.last h.at h.used),
     λ h. record { at = h.at; used = in-use-stays p q A.last h.at h.used; spelled = spells-stays 0 k h.at h.spelled; valued = value-of-kept h.at h.used ∙ h.valued },
@@ -163,7 +163,7 @@ module _ (p : Pool) (t v : ℕ) (s : SoundBut p t) (u : InUse p t) (key : Key) (
   mark-spells (b ∷ bs) j c =
       (λ h. (h.0, (mark-child j b h.0).0 h.1, (mark-spells bs h.0 c).0 h.2), λ h. (h.0, (mark-child j b h.0).1 h.1, (mark-spells bs h.0 c).1 h.2))
 
-  marked-here : record_value M t ≡ some v
+  marked-here : record_value M t ≡ Some v
   marked-here =
       let e = marked-entry p t v inside in
       let w : value M t ≡ v = marked-value p t v inside in
@@ -184,7 +184,7 @@ module _ (p : Pool) (t v : ℕ) (s : SoundBut p t) (u : InUse p t) (key : Key) (
           let way = (mark-spells k 0 h.at).0 h.spelled in
           ⊎_elim
           (λ (e : h.at ≡ t).
-          let a : record_value M t ≡ some w = subst (λ (c : ℕ). record_value M c ≡ some w) e h.valued in
+          let a : record_value M t ≡ Some w = subst (λ (c : ℕ). record_value M c ≡ Some w) e h.valued in
           let b = marked-here in
           inl (spells-one-path p k key t (subst (λ (c : ℕ). Spells p 0 k c) e way) spelled, cc))
           (λ (ne : h.at ≡ t → ⊥).
@@ -201,7 +201,7 @@ module _ (p : Pool) (t v : ℕ) (s : SoundBut p t) (u : InUse p t) (key : Key) (
             at = t;
             used = (u.0, omega (arith, u.1));
             spelled = (mark-spells k 0 t).1 (subst (λ (x : Key). Spells p 0 x t) (sym r.0) spelled);
-            valued = marked-here ∙ ap some (sym r.1);
+            valued = marked-here ∙ ap Some (sym r.1);
           }
       from (inr r) =
           let l = last-same in
@@ -292,7 +292,7 @@ module _ (p : Pool) (key : Key) (s : Sound p) (nonempty : length key ≡ 0 → �
       omega (arith, prefixes-insert key v (pool_map p) (map-rising p s), count-prefixes p s, missing-means-missing) in
       ap (λ (n : ℕ). leb n (capacity p)) e
 
-  pub present-accepted : (w : ℕ) → lookup key (pool_map p) ≡ some w → push_says p key ≡ 0 ∷ []
+  pub present-accepted : (w : ℕ) → lookup key (pool_map p) ≡ Some w → push_says p key ≡ 0 ∷ []
   present-accepted w e =
       let z = missing-present key w (pool_map p) (map-rising p s) e in
       let n = missing-means-missing in

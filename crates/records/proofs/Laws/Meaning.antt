@@ -17,7 +17,7 @@ use mathlib.Core.Path.{◌≡◌, refl, sym, ◌∙◌, ap, subst}
 use mathlib.Core.Bool.{Bool, true, false}
 use mathlib.Core.List.{List, [], ◌∷◌, ◌++◌, map}
 use mathlib.Core.Logic.{◌⊎◌, inl, inr, ⊎_elim, ◌↔◌}
-use mathlib.Core.Option.{Option, none, some}
+use Rattle.std.specs.Prelude.{Option, None, Some}
 use native.Mathlib.Omega.{arith}
 use native.Mathlib.Nat.{eq-or-lt_of_le}
 use lib.ListN.{length, length-append, length-map}
@@ -128,16 +128,16 @@ module _ (p : Pool) (K : (c : ℕ) → Node p c → ChildChain p c) where
       let z : f - length bs ≡ suc f - suc (length bs) = omega arith in
       rw (branch-child f i b s.0 n s.1) (descend-spelled bs f s.0 c (inr s.1.0) s.2 (omega arith) ∙ (λ t. (record_value p c, forest_below (z t) p c)))
 
-  value-lost : (bs : Key) (f i : ℕ) (w : Option ℕ) → Node p i → ((c : ℕ) → Spells p i bs c → ⊥) → value_at bs (w, forest_below f p i) ≡ none
+  value-lost : (bs : Key) (f i : ℕ) (w : Option ℕ) → Node p i → ((c : ℕ) → Spells p i bs c → ⊥) → value_at bs (w, forest_below f p i) ≡ None
   unfolding value_at descend forest_below branch
   value-lost [] f i w n h = absurd (h i refl)
   value-lost (b ∷ bs) zero i w n h = value_at-bare bs
   value-lost (b ∷ bs) (suc f) i w n h =
       ⊎_elim
       (λ r.
-      subst (λ (t : Tree). value_at bs t ≡ none) (sym (branch-child f i b r.0 n r.1))
+      subst (λ (t : Tree). value_at bs t ≡ None) (sym (branch-child f i b r.0 n r.1))
       (value-lost bs f r.0 (record_value p r.0) (inr r.1.0) (λ c s. h c (r.0, r.1, s))))
-      (λ (g : (x : ℕ) → ChildBy p i b x → ⊥). subst (λ (t : Tree). value_at bs t ≡ none) (sym (branch-childless (suc f) i b n g)) (value_at-bare bs))
+      (λ (g : (x : ℕ) → ChildBy p i b x → ⊥). subst (λ (t : Tree). value_at bs t ≡ None) (sym (branch-childless (suc f) i b n g)) (value_at-bare bs))
       (child-or-not p K i b n)
 
   -- ---- how many nodes of a path are not there
@@ -173,35 +173,35 @@ module _ (p : Pool) (K : (c : ℕ) → Node p c → ChildChain p c) where
   unfolding descend
   descend-root b bs v w f = refl
 
-  pub value-spelled : (b : ℕ) (bs : Key) (c : ℕ) → Spells p 0 (b ∷ bs) c → value_at (b ∷ bs) (none, pool_forest p) ≡ record_value p c
+  pub value-spelled : (b : ℕ) (bs : Key) (c : ℕ) → Spells p 0 (b ∷ bs) c → value_at (b ∷ bs) (None, pool_forest p) ≡ record_value p c
   unfolding pool_forest
   value-spelled b bs c s =
-      value_at-descend (b ∷ bs) (none, forest_below (last_record p) p 0)
+      value_at-descend (b ∷ bs) (None, forest_below (last_record p) p 0)
       ∙ ap (λ (t : Tree). t.0)
-      (descend-root b bs none (record_value p 0) (forest_below (last_record p) p 0) ∙ descend-spelled (b ∷ bs) (last_record p) 0 c (inl refl) s (spells-most p (b ∷ bs) c s))
+      (descend-root b bs None (record_value p 0) (forest_below (last_record p) p 0) ∙ descend-spelled (b ∷ bs) (last_record p) 0 c (inl refl) s (spells-most p (b ∷ bs) c s))
 
-  pub value-unspelled : (k : Key) → ((c : ℕ) → Spells p 0 k c → ⊥) → value_at k (none, pool_forest p) ≡ none
+  pub value-unspelled : (k : Key) → ((c : ℕ) → Spells p 0 k c → ⊥) → value_at k (None, pool_forest p) ≡ None
   unfolding pool_forest
-  value-unspelled k h = value-lost k (last_record p) 0 none (inl refl) h
+  value-unspelled k h = value-lost k (last_record p) 0 None (inl refl) h
 
 pub map-forest : (p : Pool) → pool_map p ≡ list_forest (pool_forest p)
 unfolding pool_map list_tree
 map-forest p = refl
 
-map-tree-list : (p : Pool) → pool_map p ≡ list_tree (none, pool_forest p)
+map-tree-list : (p : Pool) → pool_map p ≡ list_tree (None, pool_forest p)
 unfolding pool_map
 map-tree-list p = refl
 
-list_tree-forest : (f : Forest) → list_tree (none, f) ≡ list_forest f
+list_tree-forest : (f : Forest) → list_tree (None, f) ≡ list_forest f
 unfolding list_tree
 list_tree-forest f = refl
 
 -- ---- the forest is a trie's
 module _ (p : Pool) (s : Sound p) where
-  valued-some : (c : ℕ) → mark ≤ entry p c → record_value p c ≡ some (value p c)
+  valued-some : (c : ℕ) → mark ≤ entry p c → record_value p c ≡ Some (value p c)
   valued-some c h = simp (le-leb _ _ h)
 
-  valued-none : (c : ℕ) → entry p c < mark → record_value p c ≡ none
+  valued-none : (c : ℕ) → entry p c < mark → record_value p c ≡ None
   valued-none c h = simp (lt-leb _ _ h)
 
   first-child : (c : ℕ) (n : Node p c) → 0 < first_child p c → (x : ℕ) × InUse p x × (parent p x ≡ c)
@@ -212,11 +212,11 @@ module _ (p : Pool) (s : Sound p) where
       go (x ∷ xs) a o = let q = o x (inl refl) in (x, q.0, q.1)
 
   forest-some : (w : Option ℕ) (below : ℕ → Forest) (xs : List ℕ) (x : ℕ) → Among x xs → Live w (forest_of p below xs)
-  forest-some (some v) below xs x i = tt
-  forest-some none below [] x i = absurd i
-  forest-some none below (y ∷ ys) x i = tt
+  forest-some (Some v) below xs x i = tt
+  forest-some None below [] x i = absurd i
+  forest-some None below (y ∷ ys) x i = tt
 
-  live-some : (w : Option ℕ) (v : ℕ) (g : Forest) → w ≡ some v → Live w g
+  live-some : (w : Option ℕ) (v : ℕ) (g : Forest) → w ≡ Some v → Live w g
   live-some w v g e = rw e tt
 
   -- a record at the end of a path, and as many levels as records may be below it
@@ -253,17 +253,17 @@ module _ (p : Pool) (s : Sound p) where
   -- ---- the map
   pub map-rising : Rising (pool_map p)
   unfolding pool_map
-  map-rising = list_tree-rising (none, pool_forest p) forest-orderly
+  map-rising = list_tree-rising (None, pool_forest p) forest-orderly
 
-  map-lookup : (k : Key) → lookup k (pool_map p) ≡ value_at k (none, pool_forest p)
+  map-lookup : (k : Key) → lookup k (pool_map p) ≡ value_at k (None, pool_forest p)
   unfolding pool_map
-  map-lookup k = lookup-list_tree (none, pool_forest p) forest-orderly k
+  map-lookup k = lookup-list_tree (None, pool_forest p) forest-orderly k
 
-  holds-value : (k : Key) (v : ℕ) → Holds p k v → value_at k (none, pool_forest p) ≡ some v
+  holds-value : (k : Key) (v : ℕ) → Holds p k v → value_at k (None, pool_forest p) ≡ Some v
   holds-value [] v h = absurd (omega (arith, h.used.0, h.spelled))
   holds-value (b ∷ bs) v h = value-spelled p s.children b bs h.at h.spelled ∙ h.valued
 
-  value-holds : (k : Key) (v : ℕ) → value_at k (none, pool_forest p) ≡ some v → Holds p k v
+  value-holds : (k : Key) (v : ℕ) → value_at k (None, pool_forest p) ≡ Some v → Holds p k v
   unfolding value_at descend
   value-holds [] v e = let z : ◌≡◌ {A = ℕ} 0 1 = cc in absurd (omega arith)
   value-holds (b ∷ bs) v e =
@@ -289,7 +289,7 @@ module _ (p : Pool) (s : Sound p) where
   spells-bytes i [] c h = tt
   spells-bytes i (b ∷ bs) c h = (omega (arith, h.1.2), spells-bytes h.0 bs c h.2)
 
-  valued-value : (c v : ℕ) → record_value p c ≡ some v → v ≡ value p c
+  valued-value : (c v : ℕ) → record_value p c ≡ Some v → v ≡ value p c
   valued-value c v e =
       ⊎_elim (λ (l : entry p c < mark). let n = valued-none c l in let z : ◌≡◌ {A = ℕ} 0 1 = cc in absurd (omega arith))
       (λ (l : mark ≤ entry p c). let n = valued-some c l in cc) (below_or_not (entry p c) mark)
@@ -401,22 +401,22 @@ module _ (p : Pool) (s : Sound p) where
   count-forest = sym (length-prefixes (pool_forest p) forest-orderly) ∙ ap (λ (m : Map). length (prefixes m)) (sym (map-forest p)) ∙ count-prefixes
 
   -- ---- the prefixes that a key misses
-  grow-missing : (b : ℕ) (bs : Key) → missing (b ∷ bs) (pool_map p) ≡ fresh_nodes (b ∷ bs) (none, pool_forest p)
+  grow-missing : (b : ℕ) (bs : Key) → missing (b ∷ bs) (pool_map p) ≡ fresh_nodes (b ∷ bs) (None, pool_forest p)
   unfolding grow
   grow-missing b bs =
       let F = pool_forest p in
       let k : Key = b ∷ bs in
-      let grown : insert k 0 (pool_map p) ≡ list_forest (grow k 0 (none, F)).1 =
-      ap (insert k 0) (map-tree-list p) ∙ sym (list_tree-grow k 0 (none, F) forest-orderly) ∙ list_tree-forest (grow k 0 (none, F)).1 in
-      let after : length (prefixes (insert k 0 (pool_map p))) ≡ size (grow k 0 (none, F)).1 =
-      ap (λ (m : Map). length (prefixes m)) grown ∙ length-prefixes (grow k 0 (none, F)).1 (grow-orderly k 0 (none, F) forest-orderly) in
-      omega (arith, after, size-grow k 0 (none, F) forest-orderly, prefixes-insert k 0 (pool_map p) map-rising, count-prefixes, count-forest)
+      let grown : insert k 0 (pool_map p) ≡ list_forest (grow k 0 (None, F)).1 =
+      ap (insert k 0) (map-tree-list p) ∙ sym (list_tree-grow k 0 (None, F) forest-orderly) ∙ list_tree-forest (grow k 0 (None, F)).1 in
+      let after : length (prefixes (insert k 0 (pool_map p))) ≡ size (grow k 0 (None, F)).1 =
+      ap (λ (m : Map). length (prefixes m)) grown ∙ length-prefixes (grow k 0 (None, F)).1 (grow-orderly k 0 (None, F) forest-orderly) in
+      omega (arith, after, size-grow k 0 (None, F) forest-orderly, prefixes-insert k 0 (pool_map p) map-rising, count-prefixes, count-forest)
 
   pub missing-rest : (there rest : Key) (c : ℕ) → Spells p 0 there c → Stops p c rest → 0 < length (there ++ rest) → missing (there ++ rest) (pool_map p) ≡ length rest
   unfolding pool_forest
   missing-rest there rest c h stops long =
-      go (there ++ rest) refl long ∙ fresh-rest p s.children there rest (last_record p) 0 c none (inl refl) h (spells-most p there c h) stops
+      go (there ++ rest) refl long ∙ fresh-rest p s.children there rest (last_record p) 0 c None (inl refl) h (spells-most p there c h) stops
     where
-      go : (k : Key) → k ≡ there ++ rest → 0 < length k → missing k (pool_map p) ≡ fresh_nodes k (none, pool_forest p)
+      go : (k : Key) → k ≡ there ++ rest → 0 < length k → missing k (pool_map p) ≡ fresh_nodes k (None, pool_forest p)
       go [] e z = absurd (omega arith)
       go (b ∷ bs) e z = grow-missing b bs

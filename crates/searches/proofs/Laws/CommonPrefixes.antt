@@ -16,7 +16,8 @@ use native.Mathlib.Numerals.{add-one}
 use native.Mathlib.Omega.{arith}
 use mathlib.Core.Bool.{Bool, true, false}
 use mathlib.Core.List.{List, [], ◌∷◌, ◌++◌}
-use mathlib.Core.Option.{Option, none, some, none-ne-some}
+use Rattle.std.specs.Prelude.{Option, None, Some}
+use Rattle.std.proofs.lemmas.Option.{none-some}
 use lib.ListN.{length, get_or, take, drop}
 use lib.Dec.{leb}
 use lib.Seq.{length-take-le, take-suc, drop-cons, drop-length}
@@ -46,20 +47,20 @@ use Rattle.searches.specs.CommonPrefixes.{unless_seen, or_further, shortest_from
 
 -- no leading part of the query that is longer than what was seen and no longer than j has a value
 abbrev pub NoneTo : Map → Key → ℕ → ℕ → Type 0
-NoneTo m q seen j = (d : ℕ) → seen < d → d ≤ j → lookup (take d q) m ≡ none
+NoneTo m q seen j = (d : ℕ) → seen < d → d ≤ j → lookup (take d q) m ≡ None
 
-pub unless_seen-some : (seen depth v : ℕ) (held : Option ℕ) → unless_seen seen depth held ≡ some v → (seen < depth) × (held ≡ some v)
+pub unless_seen-some : (seen depth v : ℕ) (held : Option ℕ) → unless_seen seen depth held ≡ Some v → (seen < depth) × (held ≡ Some v)
 unless_seen-some seen depth v held e = go (leb depth seen) refl
   where
-    go : (t : Bool) → leb depth seen ≡ t → (seen < depth) × (held ≡ some v)
-    go true f = absurd (none-ne-some v (rw f at e))
+    go : (t : Bool) → leb depth seen ≡ t → (seen < depth) × (held ≡ Some v)
+    go true f = absurd (none-some v (rw f at e))
     go false f = (leb-false depth seen f, rw f at e)
 
 module _ (m : Map) (r : Rising m) (q : Key) (seen : ℕ) where
-  pub none_more : (j : ℕ) → NoneTo m q seen j → unless_seen seen (j + 1) (lookup (take (j + 1) q) m) ≡ none → NoneTo m q seen (j + 1)
+  pub none_more : (j : ℕ) → NoneTo m q seen j → unless_seen seen (j + 1) (lookup (take (j + 1) q) m) ≡ None → NoneTo m q seen (j + 1)
   none_more j n e d l u = go (dec_le d j)
     where
-      go : Dec (d ≤ j) → lookup (take d q) m ≡ none
+      go : Dec (d ≤ j) → lookup (take d q) m ≡ None
       go (yes b) = n d l b
       go (no b) =
           let same : d ≡ j + 1 = omega arith in
@@ -67,15 +68,15 @@ module _ (m : Map) (r : Rising m) (q : Key) (seen : ℕ) where
           rw same (rw (lt-leb (j + 1) seen past) at e)
 
   -- a key that is a prefix of the query is its leading part
-  part-value : (e : Entry) → In e m → PrefixOf e.0 q → lookup (take (length e.0) q) m ≡ some e.1
+  part-value : (e : Entry) → In e m → PrefixOf e.0 q → lookup (take (length e.0) q) m ≡ Some e.1
   part-value e i w = ap (λ (p : Key). lookup p m) ((prefix-take e.0 q).0 w) ∙ (lookup-iff e.0 e.1 m r).1 i
 
-  pub common-none : NoneTo m q seen (length q) → common_prefix_in q seen m ≡ none
+  pub common-none : NoneTo m q seen (length q) → common_prefix_in q seen m ≡ None
   common-none n =
-      (common_prefix_in-none q seen m).1 (λ e i w l. none-ne-some e.1 (sym (n (length e.0) l (prefix-length e.0 q w)) ∙ part-value e i w))
+      (common_prefix_in-none q seen m).1 (λ e i w l. none-some e.1 (sym (n (length e.0) l (prefix-length e.0 q w)) ∙ part-value e i w))
 
-  pub common-found : (j v : ℕ) → NoneTo m q seen j → j < length q → unless_seen seen (j + 1) (lookup (take (j + 1) q) m) ≡ some v
-      → common_prefix_in q seen m ≡ some (take (j + 1) q, v)
+  pub common-found : (j v : ℕ) → NoneTo m q seen j → j < length q → unless_seen seen (j + 1) (lookup (take (j + 1) q) m) ≡ Some v
+      → common_prefix_in q seen m ≡ Some (take (j + 1) q, v)
   common-found j v n l e =
       let (past, held) = unless_seen-some seen (j + 1) v (lookup (take (j + 1) q) m) e in
       let size : length (take (j + 1) q) ≡ j + 1 = length-take-le (j + 1) q (omega arith) in
@@ -88,13 +89,13 @@ module _ (m : Map) (r : Rising m) (q : Key) (seen : ℕ) where
       })
     where
       go : (d : Entry) → In d m → PrefixOf d.0 q → seen < length d.0 → length (take (j + 1) q) ≡ j + 1 → Dec (length d.0 ≤ j) → length (take (j + 1) q) ≤ length d.0
-      go d i w b size (yes u) = absurd (none-ne-some d.1 (sym (n (length d.0) b u) ∙ part-value d i w))
+      go d i w b size (yes u) = absurd (none-some d.1 (sym (n (length d.0) b u) ∙ part-value d i w))
       go d i w b size (no u) = omega arith
 
 -- ---- on any slices
 
 module _ (i : Image) (seen : ℕ) where
-  pub shortest-end : (depth : ℕ) (at : Option ℕ) → shortest_from i seen [] depth at ≡ none
+  pub shortest-end : (depth : ℕ) (at : Option ℕ) → shortest_from i seen [] depth at ≡ None
   unfolding shortest_from
   shortest-end depth at = refl
 
@@ -104,18 +105,18 @@ module _ (i : Image) (seen : ℕ) where
   shortest-step a q depth at next e =
       ap (λ (o : Option ℕ). or_further (depth + 1) (unless_seen seen (depth + 1) (value_at_end i.labels i.values o)) (shortest_from i seen q (depth + 1) o)) e
 
-  unseen-none : (depth : ℕ) → unless_seen seen depth none ≡ none
+  unseen-none : (depth : ℕ) → unless_seen seen depth None ≡ None
   unseen-none depth = go (leb depth seen) refl
     where
-      go : (t : Bool) → leb depth seen ≡ t → unless_seen seen depth none ≡ none
+      go : (t : Bool) → leb depth seen ≡ t → unless_seen seen depth None ≡ None
       go true e = rw e
       go false e = rw e
 
-  shortest-nowhere : (q : Key) (depth : ℕ) → shortest_from i seen q depth none ≡ none
-  shortest-nowhere [] depth = shortest-end depth none
+  shortest-nowhere : (q : Key) (depth : ℕ) → shortest_from i seen q depth None ≡ None
+  shortest-nowhere [] depth = shortest-end depth None
   shortest-nowhere (a ∷ q) depth =
-      shortest-step a q depth none none refl
-      ∙ ap (λ (o : Option ℕ). or_further (depth + 1) o (shortest_from i seen q (depth + 1) none)) (unseen-none (depth + 1))
+      shortest-step a q depth None None refl
+      ∙ ap (λ (o : Option ℕ). or_further (depth + 1) o (shortest_from i seen q (depth + 1) None)) (unseen-none (depth + 1))
       ∙ shortest-nowhere q (depth + 1)
 
   -- along a query, from behind its first `depth` bytes on
@@ -127,18 +128,18 @@ module _ (i : Image) (seen : ℕ) where
       ∙ shortest-step (get_or q depth 0) (drop (suc depth) q) depth at next e
       ∙ ap (λ (n : ℕ). or_further (depth + 1) (unless_seen seen (depth + 1) (value_at_end i.labels i.values next)) (shortest_from i seen (drop n q) (depth + 1) next)) (sym (add-one depth))
 
-  pub shortest-lost : (q : Key) (depth : ℕ) (at : Option ℕ) → depth < length q → step_by i.labels (bit i.words) (bits_for (entries i)) (get_or q depth 0) at ≡ none
-      → shortest_from i seen (drop depth q) depth at ≡ none
+  pub shortest-lost : (q : Key) (depth : ℕ) (at : Option ℕ) → depth < length q → step_by i.labels (bit i.words) (bits_for (entries i)) (get_or q depth 0) at ≡ None
+      → shortest_from i seen (drop depth q) depth at ≡ None
   shortest-lost q depth at h e =
-      shortest-next q depth at none h e
-      ∙ ap (λ (o : Option ℕ). or_further (depth + 1) o (shortest_from i seen (drop (depth + 1) q) (depth + 1) none)) (unseen-none (depth + 1))
+      shortest-next q depth at None h e
+      ∙ ap (λ (o : Option ℕ). or_further (depth + 1) o (shortest_from i seen (drop (depth + 1) q) (depth + 1) None)) (unseen-none (depth + 1))
       ∙ shortest-nowhere (drop (depth + 1) q) (depth + 1)
 
 -- ---- on an image that some map has
 
 pub told : Option Entry → Option (ℕ × ℕ)
-told none = none
-told (some e) = some (length e.0, e.1)
+told None = None
+told (Some e) = Some (length e.0, e.1)
 
 module _ (i : Image) (h : MapImage i) (q : Key) (seen : ℕ) where
   from-rule : (left depth : ℕ) → left + depth ≡ length q → NoneTo (image_map i) q seen depth
@@ -164,25 +165,25 @@ module _ (i : Image) (h : MapImage i) (q : Key) (seen : ℕ) where
           → (NoneTo (image_map i) q seen (depth + 1) → shortest_from i seen (drop (depth + 1) q) (depth + 1) (node_at (image_map i) (take (depth + 1) q)) ≡ told (common_prefix_in q seen (image_map i)))
           → or_further (depth + 1) (unless_seen seen (depth + 1) (lookup (take (depth + 1) q) (image_map i))) (shortest_from i seen (drop (depth + 1) q) (depth + 1) (node_at (image_map i) (take (depth + 1) q)))
           ≡ told (common_prefix_in q seen (image_map i))
-      go inside none f ih =
+      go inside None f ih =
           ap (λ (o : Option ℕ). or_further (depth + 1) o (shortest_from i seen (drop (depth + 1) q) (depth + 1) (node_at (image_map i) (take (depth + 1) q)))) f
           ∙ ih (none_more (image_map i) h.catalogue.rising q seen depth n f)
-      go inside (some v) f ih =
+      go inside (Some v) f ih =
           ap (λ (o : Option ℕ). or_further (depth + 1) o (shortest_from i seen (drop (depth + 1) q) (depth + 1) (node_at (image_map i) (take (depth + 1) q)))) f
-          ∙ ap (λ (k : ℕ). some (k, v)) (sym (length-take-le (depth + 1) q (omega arith)))
+          ∙ ap (λ (k : ℕ). Some (k, v)) (sym (length-take-le (depth + 1) q (omega arith)))
           ∙ sym (ap told (common-found (image_map i) h.catalogue.rising q seen depth v n inside f))
 
-  pub shortest-rule : shortest_from i seen q 0 (some 1) ≡ told (common_prefix_in q seen (image_map i))
+  pub shortest-rule : shortest_from i seen q 0 (Some 1) ≡ told (common_prefix_in q seen (image_map i))
   shortest-rule =
       ap (shortest_from i seen q 0) (sym (root-rule i h)) ∙ from-rule (length q) 0 (omega arith) (λ d l u. absurd (omega arith))
 
-  pub said-rule : said_common (match_of (shortest_from i seen q 0 (some 1))) ≡ says_common (common_prefix_in q seen (image_map i))
+  pub said-rule : said_common (match_of (shortest_from i seen q 0 (Some 1))) ≡ says_common (common_prefix_in q seen (image_map i))
   unfolding told
   said-rule = ap (λ (o : Option (ℕ × ℕ)). said_common (match_of o)) shortest-rule ∙ go (common_prefix_in q seen (image_map i))
     where
       go : (o : Option Entry) → said_common (match_of (told o)) ≡ says_common o
-      go none = refl
-      go (some e) = refl
+      go None = refl
+      go (Some e) = refl
 
 -- ---- what the call says
 
@@ -200,14 +201,14 @@ module _ (i : Image) (q : Key) (seen : ℕ) where
   part-is r e = go (image_test i) refl
     where
       found : (o : Option Entry) (a : Common) → common_prefix_in q seen (image_map i) ≡ o → said_common a ≡ says_common o → (part_length a ≤ length q) × (take (part_length a) q ≡ part_of q o)
-      found none (Match l v) f g = let z : ◌≡◌ {A = List ℕ} (l ∷ v ∷ []) [] = cc in let w : ◌≡◌ {A = ℕ} 0 1 = cc in absurd (omega arith)
-      found none NoMatch f g = (omega arith, refl)
-      found none NotAnImage f g = let z : ◌≡◌ {A = ℕ} 6 0 = cc in absurd (omega arith)
-      found (some d) (Match l v) f g =
+      found None (Match l v) f g = let z : ◌≡◌ {A = List ℕ} (l ∷ v ∷ []) [] = cc in let w : ◌≡◌ {A = ℕ} 0 1 = cc in absurd (omega arith)
+      found None NoMatch f g = (omega arith, refl)
+      found None NotAnImage f g = let z : ◌≡◌ {A = ℕ} 6 0 = cc in absurd (omega arith)
+      found (Some d) (Match l v) f g =
           let size : l ≡ length d.0 = cc in
           (omega (arith, size, prefix-length d.0 q (common_prefix_in-within q seen (image_map i) d f)), ap (λ (n : ℕ). take n q) size)
-      found (some d) NoMatch f g = let z : ◌≡◌ {A = List ℕ} [] (length d.0 ∷ d.1 ∷ []) = cc in let w : ◌≡◌ {A = ℕ} 0 1 = cc in absurd (omega arith)
-      found (some d) NotAnImage f g = let z : ◌≡◌ {A = ℕ} 6 0 = cc in absurd (omega arith)
+      found (Some d) NoMatch f g = let z : ◌≡◌ {A = List ℕ} [] (length d.0 ∷ d.1 ∷ []) = cc in let w : ◌≡◌ {A = ℕ} 0 1 = cc in absurd (omega arith)
+      found (Some d) NotAnImage f g = let z : ◌≡◌ {A = ℕ} 6 0 = cc in absurd (omega arith)
 
       refused : (a : Common) → said_common a ≡ refuses refused-image → (part_length a ≤ length q) × (take (part_length a) q ≡ [])
       refused (Match l v) g = let z : ◌≡◌ {A = ℕ} 0 6 = cc in absurd (omega arith)

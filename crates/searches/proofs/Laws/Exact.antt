@@ -19,7 +19,8 @@ use native.Mathlib.Decide.{dec_le}
 use native.Mathlib.Omega.{arith}
 use mathlib.Core.Bool.{Bool, true, false}
 use mathlib.Core.List.{List}
-use mathlib.Core.Option.{Option, none, some, none-ne-some}
+use Rattle.std.specs.Prelude.{Option, None, Some}
+use Rattle.std.proofs.lemmas.Option.{none-some}
 use lib.ListN.{length, set}
 use lib.Dec.{ltb}
 use Rattle.keymap.specs.Key.{Key}
@@ -52,67 +53,67 @@ use Rattle.searches.specs.Exact.{keyed, keyed_in, goes_on_from, goes_on, exact_s
 -- ---- a key by its node, on any slices
 
 module _ (i : Image) (q : Key) where
-  pub keyed_in-lost : node_by i q ≡ none → keyed_in i q ≡ NoKey
+  pub keyed_in-lost : node_by i q ≡ None → keyed_in i q ≡ NoKey
   unfolding keyed_in
   keyed_in-lost e = ap (λ (o : Option ℕ). keyed o (found_by i q)) e
 
-  module _ (m : ℕ) (e : node_by i q ≡ some m) where
+  module _ (m : ℕ) (e : node_by i q ≡ Some m) where
     ended : found_by i q ≡ value_of_node i.labels i.values m
     ended = ap (value_at_end i.labels i.values) e
 
-    pub keyed_in-plain : value_of_node i.labels i.values m ≡ none → keyed_in i q ≡ NoKey
+    pub keyed_in-plain : value_of_node i.labels i.values m ≡ None → keyed_in i q ≡ NoKey
     unfolding keyed_in
-    keyed_in-plain f = ap (λ (o : Option ℕ). keyed o (found_by i q)) e ∙ ap (keyed (some m)) (ended ∙ f)
+    keyed_in-plain f = ap (λ (o : Option ℕ). keyed o (found_by i q)) e ∙ ap (keyed (Some m)) (ended ∙ f)
 
-    pub keyed_in-held : (v : ℕ) → value_of_node i.labels i.values m ≡ some v → keyed_in i q ≡ At m v
+    pub keyed_in-held : (v : ℕ) → value_of_node i.labels i.values m ≡ Some v → keyed_in i q ≡ At m v
     unfolding keyed_in
-    keyed_in-held v f = ap (λ (o : Option ℕ). keyed o (found_by i q)) e ∙ ap (keyed (some m)) (ended ∙ f)
+    keyed_in-held v f = ap (λ (o : Option ℕ). keyed o (found_by i q)) e ∙ ap (keyed (Some m)) (ended ∙ f)
 
   pub record Found (m v : ℕ) : Type 0 where
-    pub node : node_by i q ≡ some m
-    pub value : found_by i q ≡ some v
+    pub node : node_by i q ≡ Some m
+    pub value : found_by i q ≡ Some v
 
   pub keyed-found : (m v : ℕ) → keyed_in i q ≡ At m v → Found m v
   unfolding keyed_in
   keyed-found m v e = go (node_by i q) refl (found_by i q) refl
     where
       go : (o : Option ℕ) → node_by i q ≡ o → (p : Option ℕ) → found_by i q ≡ p → Found m v
-      go none f p g = let h = keyed_in-lost f in let z : ◌≡◌ {A = ℕ} 0 1 = cc in absurd (omega arith)
-      go (some k) f none g = let h = keyed_in-plain k f (sym (ended k f) ∙ g) in let z : ◌≡◌ {A = ℕ} 0 1 = cc in absurd (omega arith)
-      go (some k) f (some w) g =
+      go None f p g = let h = keyed_in-lost f in let z : ◌≡◌ {A = ℕ} 0 1 = cc in absurd (omega arith)
+      go (Some k) f None g = let h = keyed_in-plain k f (sym (ended k f) ∙ g) in let z : ◌≡◌ {A = ℕ} 0 1 = cc in absurd (omega arith)
+      go (Some k) f (Some w) g =
           let h = keyed_in-held k f w (sym (ended k f) ∙ g) in
           let one : k ≡ m = cc in
           let other : w ≡ v = cc in
-          record { node = f ∙ ap some one; value = g ∙ ap some other }
+          record { node = f ∙ ap Some one; value = g ∙ ap Some other }
 
-  pub keyed-missed : keyed_in i q ≡ NoKey → found_by i q ≡ none
+  pub keyed-missed : keyed_in i q ≡ NoKey → found_by i q ≡ None
   keyed-missed e = go (node_by i q) refl (found_by i q) refl
     where
-      go : (o : Option ℕ) → node_by i q ≡ o → (p : Option ℕ) → found_by i q ≡ p → found_by i q ≡ none
-      go none f p g = ap (value_at_end i.labels i.values) f
-      go (some k) f none g = g
-      go (some k) f (some w) g = let h = keyed_in-held k f w (sym (ended k f) ∙ g) in let z : ◌≡◌ {A = ℕ} 0 1 = cc in absurd (omega arith)
+      go : (o : Option ℕ) → node_by i q ≡ o → (p : Option ℕ) → found_by i q ≡ p → found_by i q ≡ None
+      go None f p g = ap (value_at_end i.labels i.values) f
+      go (Some k) f None g = g
+      go (Some k) f (Some w) g = let h = keyed_in-held k f w (sym (ended k f) ∙ g) in let z : ◌≡◌ {A = ℕ} 0 1 = cc in absurd (omega arith)
 
   -- a node with a value has an entry
   pub found_inside : (m v : ℕ) → Found m v → (2 ≤ m) × (m - 2 < length i.values)
   found_inside m v f = root (dec_le 2 m)
     where
-      held : value_of_node i.labels i.values m ≡ some v
+      held : value_of_node i.labels i.values m ≡ Some v
       held = sym (ended m f.node) ∙ f.value
 
       short : 2 ≤ m → Dec (length i.values ≤ m - 2) → (2 ≤ m) × (m - 2 < length i.values)
-      short two (yes l) = absurd (none-ne-some v (sym (value_of_node-short i.labels i.values m two l) ∙ held))
+      short two (yes l) = absurd (none-some v (sym (value_of_node-short i.labels i.values m two l) ∙ held))
       short two (no l) = (two, lt_of_not-le l)
 
       root : Dec (2 ≤ m) → (2 ≤ m) × (m - 2 < length i.values)
       root (yes two) = short two (dec_le (length i.values) (m - 2))
-      root (no l) = absurd (none-ne-some v (sym (value_of_node-root i.labels i.values m (lt_of_not-le l)) ∙ held))
+      root (no l) = absurd (none-some v (sym (value_of_node-root i.labels i.values m (lt_of_not-le l)) ∙ held))
 
-  pub goes_on-lost : node_by i q ≡ none → goes_on i.labels i.words q ≡ false
+  pub goes_on-lost : node_by i q ≡ None → goes_on i.labels i.words q ≡ false
   unfolding goes_on
   goes_on-lost e = ap (goes_on_from (bit i.words) (bits_for (entries i))) e
 
-  pub goes_on-ended : (m : ℕ) → node_by i q ≡ some m
+  pub goes_on-ended : (m : ℕ) → node_by i q ≡ Some m
       → goes_on i.labels i.words q ≡ ltb 0 (kids_from (bit i.words) (bits_for (entries i)) (stand_at (bit i.words) (bits_for (entries i)) m)).count
   unfolding goes_on
   goes_on-ended m e = ap (goes_on_from (bit i.words) (bits_for (entries i))) e
@@ -120,12 +121,12 @@ module _ (i : Image) (q : Key) where
 -- ---- on an image that some map has
 
 module _ (i : Image) (h : MapImage i) where
-  pub found-key : (q : Key) (m v : ℕ) → Found i q m v → (m ≡ node_of (image_map i) q) × (lookup q (image_map i) ≡ some v)
+  pub found-key : (q : Key) (m v : ℕ) → Found i q m v → (m ≡ node_of (image_map i) q) × (lookup q (image_map i) ≡ Some v)
   found-key q m v f = (go (path-told (image_map i) q), sym (value-rule i h q) ∙ f.value)
     where
       go : PathTold (image_map i) q → m ≡ node_of (image_map i) q
-      go (there n e) = let g : ◌≡◌ {A = Option ℕ} (some m) (some (node_of (image_map i) q)) = sym f.node ∙ walk-rule i h q ∙ e in cc
-      go (absent n e) = absurd (none-ne-some m (sym (walk-rule i h q ∙ e) ∙ f.node))
+      go (there n e) = let g : ◌≡◌ {A = Option ℕ} (Some m) (Some (node_of (image_map i) q)) = sym f.node ∙ walk-rule i h q ∙ e in cc
+      go (absent n e) = absurd (none-some m (sym (walk-rule i h q ∙ e) ∙ f.node))
 
   pub goes-rule : (q : Key) → goes_on i.labels i.words q ≡ is_prefix_in q (image_map i)
   goes-rule q = go (path-told (image_map i) q)
@@ -168,17 +169,17 @@ module _ (i : Image) (q : Key) (accepted : image_test i ≡ true) where
   unfolding is_prefix_says
   is_prefix_says-accepted = rw accepted
 
-  pub set_values-absent : (v : ℕ) → lookup q (image_map i) ≡ none → set_values i q v ≡ i.values
+  pub set_values-absent : (v : ℕ) → lookup q (image_map i) ≡ None → set_values i q v ≡ i.values
   unfolding set_values
   set_values-absent v e = rw (accepted, e)
 
-  pub set_values-present : (v w : ℕ) → lookup q (image_map i) ≡ some w → set_values i q v ≡ set i.values (node_of (image_map i) q - 2) v
+  pub set_values-present : (v w : ℕ) → lookup q (image_map i) ≡ Some w → set_values i q v ≡ set i.values (node_of (image_map i) q - 2) v
   unfolding set_values
   set_values-present v w e = rw (accepted, e)
 
 -- ---- setting the value of a key
 
-module _ (i : Image) (h : MapImage i) (accepted : image_test i ≡ true) (q : Key) (v w : ℕ) (held : lookup q (image_map i) ≡ some w) (small : v < value_limit) where
+module _ (i : Image) (h : MapImage i) (accepted : image_test i ≡ true) (q : Key) (v w : ℕ) (held : lookup q (image_map i) ≡ Some w) (small : v < value_limit) where
   after : Image
   after = record { labels = i.labels; values = set_values i q v; words = i.words }
 

@@ -17,7 +17,8 @@ use native.Mathlib.Omega.{arith}
 use mathlib.Core.Bool.{Bool, true, false, false≢true, cond, ◌&&◌}
 use mathlib.Core.List.Memᴰ
 use mathlib.Core.List.{List, [], ◌∷◌}
-use mathlib.Core.Option.{Option, none, some, none-ne-some}
+use Rattle.std.specs.Prelude.{Option, None, Some}
+use Rattle.std.proofs.lemmas.Option.{none-some}
 use lib.ListN.{length, get_or}
 use lib.Dec.{leb}
 use borrow.Author.Tests.{lt-ltb, le-leb}
@@ -28,7 +29,7 @@ use Rattle.keymap.specs.Answers.{says_value}
 use Rattle.keymap.specs.Bits.{bit}
 use Rattle.keymap.specs.Image.{Image, bits_for}
 use Rattle.louds.specs.declared.answers.Children.{Children}
-use Rattle.louds.specs.declared.answers.Children.TheVariants.{Run, NoNode}
+use Rattle.louds.specs.Nodes.{Run}
 use Rattle.louds.specs.Nodes.{children_of}
 use Rattle.louds.proofs.Laws.Nodes.{children-agree}
 use Rattle.image.specs.Accept.{entries, node_entry}
@@ -77,18 +78,18 @@ lowest-alike (suc left) ls ks k m a same agree = go (counts (length ls) k m) ref
         both (is_child_by-alike ls ks k m a same other) (is_child_by ls k m a) refl (λ f. ih own)
 
 -- the one that is taken is looked at
-taken-looked : (left : ℕ) (ls : List ℕ) (k m a c : ℕ) → lowest_by ls k left m a ≡ some c → In c (looked_at ls k left m a)
+taken-looked : (left : ℕ) (ls : List ℕ) (k m a c : ℕ) → lowest_by ls k left m a ≡ Some c → In c (looked_at ls k left m a)
 unfolding lowest_by looked_at
-taken-looked zero ls k m a c e = absurd (none-ne-some c e)
+taken-looked zero ls k m a c e = absurd (none-some c e)
 taken-looked (suc left) ls k m a c e = go (is_child_by ls k m a) refl (λ f. taken-looked left ls k (m + 1) a c f)
   where
     later : (t : Bool) → counts (length ls) k m ≡ t → is_child_by ls k m a ≡ false → In c (looked_at ls k left (m + 1) a) → In c (looked_at ls k (suc left) m a)
     later true g f n = rw (g, f) (there n)
     later false g f n = rw g n
 
-    go : (t : Bool) → is_child_by ls k m a ≡ t → (lowest_by ls k left (m + 1) a ≡ some c → In c (looked_at ls k left (m + 1) a)) → In c (looked_at ls k (suc left) m a)
+    go : (t : Bool) → is_child_by ls k m a ≡ t → (lowest_by ls k left (m + 1) a ≡ Some c → In c (looked_at ls k left (m + 1) a)) → In c (looked_at ls k (suc left) m a)
     go true f ih =
-        let g : ◌≡◌ {A = Option ℕ} (some m) (some c) = rw f at e in
+        let g : ◌≡◌ {A = Option ℕ} (Some m) (Some c) = rw f at e in
         let same : c ≡ m = cc in
         let own = is_child_by-told ls k m a f in
         rw (lt-ltb k m own.above, le-leb m (length ls + 1) own.within, f) (here same)
@@ -97,18 +98,18 @@ taken-looked (suc left) ls k m a c e = go (is_child_by ls k m a) refl (λ f. tak
 -- ---- the walk
 
 module _ (ls ks : List ℕ) (b c : ℕ → ℕ) (len : ℕ) (same : length ls ≡ length ks) (bits : (p : ℕ) → p < len → b p ≡ c p) where
-  child-alike : (k a : ℕ) → ((m : ℕ) → In m (looked_over ls b len a (some k)) → get_or ls (m - 2) 0 ≡ get_or ks (m - 2) 0) → child_by ls b len k a ≡ child_by ks c len k a
+  child-alike : (k a : ℕ) → ((m : ℕ) → In m (looked_over ls b len a (Some k)) → get_or ls (m - 2) 0 ≡ get_or ks (m - 2) 0) → child_by ls b len k a ≡ child_by ks c len k a
   child-alike k a agree = go (children_of b len k) refl
     where
-      go : (t : Children) → children_of b len k ≡ t → child_by ls b len k a ≡ child_by ks c len k a
-      go NoNode e = child_by-none ls b len k a e ∙ sym (child_by-none ks c len k a (sym (children-agree b c len bits k) ∙ e))
+      go : (t : Option Children) → children_of b len k ≡ t → child_by ls b len k a ≡ child_by ks c len k a
+      go None e = child_by-none ls b len k a e ∙ sym (child_by-none ks c len k a (sym (children-agree b c len bits k) ∙ e))
       go (Run f n) e =
           let own : (m : ℕ) → In m (looked_at ls k n f a) → get_or ls (m - 2) 0 ≡ get_or ks (m - 2) 0 = rw e at agree in
           child_by-run ls b len k a f n e ∙ lowest-alike n ls ks k f a same own ∙ sym (child_by-run ks c len k a f n (sym (children-agree b c len bits k) ∙ e))
 
   step-alike : (a : ℕ) (o : Option ℕ) → ((m : ℕ) → In m (looked_over ls b len a o) → get_or ls (m - 2) 0 ≡ get_or ks (m - 2) 0) → step_by ls b len a o ≡ step_by ks c len a o
-  step-alike a none agree = refl
-  step-alike a (some k) agree = child-alike k a agree
+  step-alike a None agree = refl
+  step-alike a (Some k) agree = child-alike k a agree
 
   pub walk-alike : (q : Key) (o : Option ℕ) → ((m : ℕ) → In m (looked_from ls b len q o) → get_or ls (m - 2) 0 ≡ get_or ks (m - 2) 0)
       → walked_from ls b len q o ≡ walked_from ks c len q o
@@ -121,18 +122,18 @@ module _ (ls ks : List ℕ) (b c : ℕ → ℕ) (len : ℕ) (same : length ls �
       ∙ sym (walked_from-step ks c len a q o)
 
 module _ (ls : List ℕ) (b : ℕ → ℕ) (len : ℕ) where
-  child-looked : (k a m : ℕ) → child_by ls b len k a ≡ some m → In m (looked_over ls b len a (some k))
+  child-looked : (k a m : ℕ) → child_by ls b len k a ≡ Some m → In m (looked_over ls b len a (Some k))
   child-looked k a m e = go (children_of b len k) refl
     where
-      go : (t : Children) → children_of b len k ≡ t → In m (looked_over ls b len a (some k))
-      go NoNode f = absurd (none-ne-some m (sym (child_by-none ls b len k a f) ∙ e))
+      go : (t : Option Children) → children_of b len k ≡ t → In m (looked_over ls b len a (Some k))
+      go None f = absurd (none-some m (sym (child_by-none ls b len k a f) ∙ e))
       go (Run f n) g = rw g (taken-looked n ls k f a m (sym (child_by-run ls b len k a f n g) ∙ e))
 
-  step-looked : (a : ℕ) (o : Option ℕ) (m : ℕ) → step_by ls b len a o ≡ some m → In m (looked_over ls b len a o)
-  step-looked a none m e = absurd (none-ne-some m e)
-  step-looked a (some k) m e = child-looked k a m e
+  step-looked : (a : ℕ) (o : Option ℕ) (m : ℕ) → step_by ls b len a o ≡ Some m → In m (looked_over ls b len a o)
+  step-looked a None m e = absurd (none-some m e)
+  step-looked a (Some k) m e = child-looked k a m e
 
-  pub end-looked : (q : Key) (o : Option ℕ) (m : ℕ) → walked_from ls b len q o ≡ some m → (o ≡ some m) ⊎ In m (looked_from ls b len q o)
+  pub end-looked : (q : Key) (o : Option ℕ) (m : ℕ) → walked_from ls b len q o ≡ Some m → (o ≡ Some m) ⊎ In m (looked_from ls b len q o)
   unfolding looked_from
   end-looked [] o m e = inl (sym (walked_from-end ls b len o) ∙ e)
   end-looked (a ∷ q) o m e =
@@ -143,7 +144,7 @@ module _ (ls : List ℕ) (b : ℕ → ℕ) (len : ℕ) where
 -- ---- the value
 
 value-alike : (ls ks vs us : List ℕ) (m : ℕ) → length vs ≡ length us → (2 ≤ m → get_or ls (m - 2) 0 ≡ get_or ks (m - 2) 0)
-    → ((v : ℕ) → value_of_node ls vs m ≡ some v → get_or us (m - 2) 0 ≡ v) → value_of_node ls vs m ≡ value_of_node ks us m
+    → ((v : ℕ) → value_of_node ls vs m ≡ Some v → get_or us (m - 2) 0 ≡ v) → value_of_node ls vs m ≡ value_of_node ks us m
 value-alike ls ks vs us m lengths entry value = root (dec_le 2 m)
   where
     large : 2 ≤ m → m - 2 < length vs → mark ≤ get_or ls (m - 2) 0 → Dec (2 * mark ≤ get_or ls (m - 2) 0) → value_of_node ls vs m ≡ value_of_node ks us m
@@ -154,7 +155,7 @@ value-alike ls ks vs us m lengths entry value = root (dec_le 2 m)
         let same = entry two in
         let held = value_of_node-held ls vs m two inside marked (lt_of_not-le l) in
         held
-        ∙ ap some (sym (value (get_or vs (m - 2) 0) held))
+        ∙ ap Some (sym (value (get_or vs (m - 2) 0) held))
         ∙ sym (value_of_node-held ks us m two (omega (arith, lengths)) (omega (arith, same)) (omega (arith, same, lt_of_not-le l)))
 
     plain : 2 ≤ m → m - 2 < length vs → Dec (mark ≤ get_or ls (m - 2) 0) → value_of_node ls vs m ≡ value_of_node ks us m
@@ -178,21 +179,21 @@ untested-alike-looked i j q h = go (lengths_fit i) refl
   where
     ends : node_by i q ≡ node_by j q
     ends =
-        walk-alike i.labels j.labels (bit i.words) (bit j.words) (bits_for (entries i)) h.number h.bits q (some 1) h.siblings
+        walk-alike i.labels j.labels (bit i.words) (bit j.words) (bits_for (entries i)) h.number h.bits q (Some 1) h.siblings
         ∙ ap (λ (n : ℕ). walked j.labels (bit j.words) (bits_for n) q) h.number
 
     end : lengths_fit i ≡ true → (o : Option ℕ) → node_by i q ≡ o → value_at_end i.labels i.values o ≡ value_at_end j.labels j.values o
-    end fit none e = refl
-    end fit (some m) e =
+    end fit None e = refl
+    end fit (Some m) e =
         value-alike i.labels j.labels i.values j.values m lengths entry (λ v f. h.value m v e (ap (value_at_end i.labels i.values) e ∙ f))
       where
         lengths : length i.values ≡ length j.values
         lengths = omega (arith, (lengths-told i fit).values-fit, (lengths-told j (sym h.lengths ∙ fit)).values-fit, h.number)
 
         entry : 2 ≤ m → node_entry i m ≡ node_entry j m
-        entry two = ⊎_elim (λ f. absurd (omega (arith, two, one f))) (λ n. h.siblings m n) (end-looked i.labels (bit i.words) (bits_for (entries i)) q (some 1) m e)
+        entry two = ⊎_elim (λ f. absurd (omega (arith, two, one f))) (λ n. h.siblings m n) (end-looked i.labels (bit i.words) (bits_for (entries i)) q (Some 1) m e)
           where
-            one : ◌≡◌ {A = Option ℕ} (some 1) (some m) → 1 ≡ m
+            one : ◌≡◌ {A = Option ℕ} (Some 1) (Some m) → 1 ≡ m
             one f = cc
 
     go : (t : Bool) → lengths_fit i ≡ t → untested_says i q ≡ untested_says j q
@@ -223,11 +224,11 @@ counted-looked (suc left) ls k m a c n = go (counts (length ls) k m) refl (λ i.
 
 module _ (ls : List ℕ) (b : ℕ → ℕ) (len : ℕ) where
   over-met : (a : ℕ) (o : Option ℕ) (m : ℕ) → In m (looked_over ls b len a o) → In m (siblings_at ls b len o)
-  over-met a none m n = n
-  over-met a (some k) m n = go (children_of b len k) refl
+  over-met a None m n = n
+  over-met a (Some k) m n = go (children_of b len k) refl
     where
-      go : (t : Children) → children_of b len k ≡ t → In m (siblings_at ls b len (some k))
-      go NoNode e = rw e (rw e at n)
+      go : (t : Option Children) → children_of b len k ≡ t → In m (siblings_at ls b len (Some k))
+      go None e = rw e (rw e at n)
       go (Run f c) e = rw e (counted-looked c ls k f a m (rw e at n))
 
   pub looked-met : (q : Key) (o : Option ℕ) (m : ℕ) → In m (looked_from ls b len q o) → In m (met_from ls b len q o)
@@ -245,6 +246,6 @@ untested-alike i j q h =
       number = h.number;
       lengths = h.lengths;
       bits = h.bits;
-      siblings = λ m n. h.siblings m (looked-met i.labels (bit i.words) (bits_for (entries i)) q (some 1) m n);
+      siblings = λ m n. h.siblings m (looked-met i.labels (bit i.words) (bits_for (entries i)) q (Some 1) m n);
       value = h.value;
     })

@@ -15,7 +15,8 @@ use native.Mathlib.Omega.{arith}
 use mathlib.Core.Logic.{inr}
 use mathlib.Core.Bool.{true, false}
 use mathlib.Core.List.{List, [], ◌∷◌, ◌++◌}
-use mathlib.Core.Option.{Option, none, some, none-ne-some}
+use Rattle.std.specs.Prelude.{Option, None, Some}
+use Rattle.std.proofs.lemmas.Option.{none-some}
 use lib.ListN.{length, drop}
 use Rattle.keymap.specs.Members.{In, here}
 use Rattle.keymap.specs.Key.{Key}
@@ -47,24 +48,24 @@ use Rattle.searches.specs.Prefix.{longest_says, longest_out}
 -- ---- the common prefix
 
 module _ (q : Key) (m : Map) where
-  pub longest-none : length (common_of m q) ≡ 0 → longest_prefix_in q m ≡ none
+  pub longest-none : length (common_of m q) ≡ 0 → longest_prefix_in q m ≡ None
   unfolding longest_prefix_in
   longest-none = go (common_of m q) refl
     where
-      go : (k : Key) → common_of m q ≡ k → length (common_of m q) ≡ 0 → longest_prefix_in q m ≡ none
+      go : (k : Key) → common_of m q ≡ k → length (common_of m q) ≡ 0 → longest_prefix_in q m ≡ None
       go [] e z = rw e
       go (a ∷ k) e z = absurd (omega (arith, ap length e))
 
-  pub longest-some : 0 < length (common_of m q) → longest_prefix_in q m ≡ some (common_of m q)
+  pub longest-some : 0 < length (common_of m q) → longest_prefix_in q m ≡ Some (common_of m q)
   unfolding longest_prefix_in
   longest-some = go (common_of m q) refl
     where
-      go : (k : Key) → common_of m q ≡ k → 0 < length (common_of m q) → longest_prefix_in q m ≡ some (common_of m q)
+      go : (k : Key) → common_of m q ≡ k → 0 < length (common_of m q) → longest_prefix_in q m ≡ Some (common_of m q)
       go [] e z = absurd (omega (arith, ap length e))
       go (a ∷ k) e z = rw e
 
 -- a query that leads nowhere is no key's beginning
-pub common-unreached : (i : Image) → MapImage i → (q : Key) → node_by i q ≡ none → common_of (image_map i) q ≡ []
+pub common-unreached : (i : Image) → MapImage i → (q : Key) → node_by i q ≡ None → common_of (image_map i) q ≡ []
 unfolding common_of_all
 common-unreached i h q e = go (path-told (image_map i) q)
   where
@@ -75,7 +76,7 @@ common-unreached i h q e = go (path-told (image_map i) q)
         absurd (n ((nodes-iff (image_map i) q).1 (inr (d, among, begins))))
 
     go : PathTold (image_map i) q → common_of (image_map i) q ≡ []
-    go (there n f) = absurd (none-ne-some (node_of (image_map i) q) (sym e ∙ walk-rule i h q ∙ f))
+    go (there n f) = absurd (none-some (node_of (image_map i) q) (sym e ∙ walk-rule i h q ∙ f))
     go (absent n f) = empty n (beginning q (image_map i)) refl
 
 -- the end of a glide from where a query led
@@ -106,10 +107,10 @@ end_of i h q s g r e = go (path-told (image_map i) q)
 
     go : PathTold m q → EndOf i q g
     go (there n f) =
-        let found : ◌≡◌ {A = Option ℕ} (some (node_of m q)) (some s.node) = sym (walk-rule i h q ∙ f) ∙ r.node in
+        let found : ◌≡◌ {A = Option ℕ} (Some (node_of m q)) (Some s.node) = sym (walk-rule i h q ∙ f) ∙ r.node in
         let node : node_of m q ≡ s.node = cc in
         ended (rw node at (node_of-node m q n)) (ap (path_of m) (sym node) ∙ path_of-node_of m q n)
-    go (absent n f) = absurd (none-ne-some s.node (sym (walk-rule i h q ∙ f) ∙ r.node))
+    go (absent n f) = absurd (none-some s.node (sym (walk-rule i h q ∙ f) ∙ r.node))
 
 -- ---- the call
 

@@ -4,7 +4,7 @@ use mathlib.Core.Path.{◌≡◌, refl, sym, subst}
 use mathlib.Core.Logic.{◌⊎◌, inl, inr}
 use mathlib.Core.Bool.{true, true≢false}
 use mathlib.Core.List.{List, [], ◌∷◌}
-use mathlib.Core.Option.{none, some}
+use Rattle.std.specs.Prelude.{None, Some}
 use native.Mathlib.Omega.{arith}
 use lib.ListN.{length, replicate}
 use Rattle.keymap.specs.Members.{In, here, there}
@@ -59,10 +59,10 @@ pub exact-match : exact_says image_a ab ∷ exact_says image_a b ∷ exact_says 
 unfolding lookup compare_keys
 exact-match = λ i. on_a.exact-match ab i ∷ on_a.exact-match b i ∷ on_a.exact-match a i ∷ on_a.exact-match [] i ∷ []
 
-pub entries : ((v : ℕ) → lookup ab map_a ≡ some v → In (ab, v) map_a) × (lookup ab map_a ≡ some 7) × (lookup b map_a ≡ some 3)
+pub entries : ((v : ℕ) → lookup ab map_a ≡ Some v → In (ab, v) map_a) × (lookup ab map_a ≡ Some 7) × (lookup b map_a ≡ Some 3)
 entries = (λ v. (on_a.entries ab v).0, (on_a.entries ab 7).1 (here refl), (on_a.entries b 3).1 (there (here refl)))
 
-pub empty-query : lookup [] map_a ≡ none
+pub empty-query : lookup [] map_a ≡ None
 empty-query = on_a.empty-query
 
 -- the empty query and "a" are prefixes of longer keys, and "ab" of none
@@ -85,8 +85,8 @@ longest-prefix = λ i. (on_a.longest-prefix [] four).0 i ∷ (on_a.longest-prefi
 
 -- which is what the keys beginning with "a" have in common, and no more
 pub longest : (p : Key)
-    → (longest_prefix_in a map_a ≡ some p → SomeBegins a map_a × LongestCommon (beginning a map_a) p × (¬ (p ≡ [])))
-    × (SomeBegins a map_a → LongestCommon (beginning a map_a) p → ¬ (p ≡ []) → longest_prefix_in a map_a ≡ some p)
+    → (longest_prefix_in a map_a ≡ Some p → SomeBegins a map_a × LongestCommon (beginning a map_a) p × (¬ (p ≡ [])))
+    × (SomeBegins a map_a → LongestCommon (beginning a map_a) p → ¬ (p ≡ []) → longest_prefix_in a map_a ≡ Some p)
 longest p = ((on_a.longest a p).0, λ s l n. (on_a.longest a p).1 (s, l, n))
 
 pub longest-ab : LongestCommon (beginning a map_a) ab
@@ -98,14 +98,14 @@ pub longest-room : (longest_says image_a a (9 ∷ []) ≡ 8 ∷ []) × (longest_
 unfolding longest_prefix_in common_of_all common_prefix beginning keep begins_with
 longest-room = on_a.longest-prefix a (9 ∷ [])
 
-none-ac : longest_prefix_in ac map_a ≡ none
+none-ac : longest_prefix_in ac map_a ≡ None
 unfolding longest_prefix_in common_of_all beginning keep begins_with
 none-ac = refl
 
 -- no key begins with "ac", and those that begin with the empty query have nothing in common
 pub no-longest : ((¬ SomeBegins ac map_a) ⊎ LongestCommon (beginning ac map_a) [])
-    × (¬ SomeBegins ac map_a → longest_prefix_in ac map_a ≡ none)
-    × (LongestCommon (beginning [] map_a) [] → longest_prefix_in [] map_a ≡ none)
+    × (¬ SomeBegins ac map_a → longest_prefix_in ac map_a ≡ None)
+    × (LongestCommon (beginning [] map_a) [] → longest_prefix_in [] map_a ≡ None)
 no-longest = ((on_a.no-longest ac).0 none-ac, λ n. (on_a.no-longest ac).1 (inl n), λ l. (on_a.no-longest []).1 (inr l))
 
 -- "common prefixes of "abc" after 0: "ab" 7; after 2: no match"
@@ -113,19 +113,19 @@ pub common-prefix : common_says image_a abc 0 ∷ common_part image_a abc 0 ∷ 
 unfolding common_prefix_in keep begins_with
 common-prefix = λ i. (on_a.common-prefix abc 0).0 i ∷ (on_a.common-prefix abc 0).1 i ∷ (on_a.common-prefix abc 2).0 i ∷ (on_a.common-prefix abc 2).1 i ∷ []
 
-pub shortest : (e : Entry) → (common_prefix_in abc 0 map_a ≡ some e → ShortestWithin abc 0 map_a e) × (ShortestWithin abc 0 map_a e → common_prefix_in abc 0 map_a ≡ some e)
+pub shortest : (e : Entry) → (common_prefix_in abc 0 map_a ≡ Some e → ShortestWithin abc 0 map_a e) × (ShortestWithin abc 0 map_a e → common_prefix_in abc 0 map_a ≡ Some e)
 shortest e = ((on_a.shortest abc 0 e).0, (on_a.shortest abc 0 e).1)
 
 pub shortest-ab : ShortestWithin abc 0 map_a (ab, 7)
 unfolding common_prefix_in keep begins_with
 shortest-ab = (shortest (ab, 7)).0 refl
 
-none-abc : common_prefix_in abc 2 map_a ≡ none
+none-abc : common_prefix_in abc 2 map_a ≡ None
 unfolding common_prefix_in keep begins_with
 none-abc = refl
 
 pub no-shortest : ((e : Entry) → In e map_a → begins_with e.0 abc ≡ true → ¬ (2 < length e.0))
-    × (((e : Entry) → In e map_a → begins_with e.0 a ≡ true → ¬ (0 < length e.0)) → common_prefix_in a 0 map_a ≡ none)
+    × (((e : Entry) → In e map_a → begins_with e.0 a ≡ true → ¬ (0 < length e.0)) → common_prefix_in a 0 map_a ≡ None)
 no-shortest = ((on_a.no-shortest abc 2).0 none-abc, (on_a.no-shortest a 0).1)
 
 -- a listing of "a" begins at node 2; a postfix listing of "ab" is finished at once, and so is one where there is no path
@@ -169,22 +169,22 @@ next =
     ∷ []
 
 pub least : (k : Key) (e : Entry)
-    → (least_above k (beginning a map_a) ≡ some e → NextAfter k (beginning a map_a) e)
-    × (NextAfter k (beginning a map_a) e → least_above k (beginning a map_a) ≡ some e)
-    × (least_above k (longer a map_a) ≡ some e → NextAfter k (longer a map_a) e)
-    × (NextAfter k (longer a map_a) e → least_above k (longer a map_a) ≡ some e)
+    → (least_above k (beginning a map_a) ≡ Some e → NextAfter k (beginning a map_a) e)
+    × (NextAfter k (beginning a map_a) e → least_above k (beginning a map_a) ≡ Some e)
+    × (least_above k (longer a map_a) ≡ Some e → NextAfter k (longer a map_a) e)
+    × (NextAfter k (longer a map_a) e → least_above k (longer a map_a) ≡ Some e)
 least k e = ((on_a.least Predictive a k e).0, (on_a.least Predictive a k e).1, (on_a.least Postfix a k e).0, (on_a.least Postfix a k e).1)
 
 pub least-ab : NextAfter ab map_a (b, 3)
 unfolding least_above beginning keep begins_with compare_keys
 least-ab = (on_a.least Predictive [] ab (b, 3)).0 refl
 
-none-b : least_above b (beginning [] map_a) ≡ none
+none-b : least_above b (beginning [] map_a) ≡ None
 unfolding least_above beginning keep begins_with compare_keys
 none-b = refl
 
 -- no key stands above "b"
-pub no-least : ((e : Entry) → In e (beginning [] map_a) → ¬ Below b e.0) × (((e : Entry) → In e (longer a map_a) → ¬ Below ab e.0) → least_above ab (longer a map_a) ≡ none)
+pub no-least : ((e : Entry) → In e (beginning [] map_a) → ¬ Below b e.0) × (((e : Entry) → In e (longer a map_a) → ¬ Below ab e.0) → least_above ab (longer a map_a) ≡ None)
 no-least = ((on_a.no-least Predictive [] b).0 none-b, (on_a.no-least Postfix a ab).1)
 
 -- the key of a cursor: "ab" in a predictive listing, "b" in a postfix listing of "a"

@@ -3,7 +3,7 @@ use Prim.Native.Nat.{ℕ, ◌≤◌, ◌<◌}
 use mathlib.Core.Path.{◌≡◌, refl, sym}
 use mathlib.Core.Bool.{true, true≢false}
 use mathlib.Core.List.{List, [], ◌∷◌}
-use mathlib.Core.Option.{some}
+use Rattle.std.specs.Prelude.{Some}
 use native.Mathlib.Omega.{arith}
 use lib.ListN.{length}
 use Rattle.keymap.specs.Map.{Entry}
@@ -104,11 +104,11 @@ unfolding lines_of
 ends = ((every-cut text 4).ends.1 refl, (every-cut text 9).ends.1 refl, (every-cut text 3).ends.0)
 
 -- what is written of A's map is read as its entries
-pub reads-map : entries_of (map_text map_a) ≡ some (ab, 7) ∷ some (b, 3) ∷ []
+pub reads-map : entries_of (map_text map_a) ≡ Some (ab, 7) ∷ Some (b, 3) ∷ []
 unfolding holds
 reads-map = read-back map_a (plain, (record { no-tab = refl; no-lf = refl; value = omega arith }, tt))
 
 -- and so it is of entries that are no map's
-pub reads-any : entries_of (map_text ((ab, 7) ∷ ([], 0) ∷ (ab, 7) ∷ [])) ≡ some (ab, 7) ∷ some ([], 0) ∷ some (ab, 7) ∷ []
+pub reads-any : entries_of (map_text ((ab, 7) ∷ ([], 0) ∷ (ab, 7) ∷ [])) ≡ Some (ab, 7) ∷ Some ([], 0) ∷ Some (ab, 7) ∷ []
 unfolding holds
 reads-any = read-back ((ab, 7) ∷ ([], 0) ∷ (ab, 7) ∷ []) (plain, (record { no-tab = refl; no-lf = refl; value = omega arith }, (plain, tt)))

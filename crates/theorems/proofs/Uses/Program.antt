@@ -3,7 +3,7 @@ use Prim.Native.Nat.{ℕ, suc, ◌+◌, ◌≤◌, ◌<◌}
 use mathlib.Core.Path.{◌≡◌, refl, ap}
 use mathlib.Core.Logic.{◌⊎◌, inl, inr}
 use mathlib.Core.List.{List, [], ◌∷◌, ◌++◌, cons-ne-nil}
-use mathlib.Core.Option.{none, some}
+use Rattle.std.specs.Prelude.{None, Some}
 use native.Mathlib.Omega.{arith}
 use lib.ListN.{length}
 use Rattle.keymap.specs.Key.{compare_keys}
@@ -35,7 +35,7 @@ whole = record {
 }
 
 -- "gives exactly `ab`TAB`7`LF`b`TAB`3`LF"
-pub listed : program_text (some file) ≡ ascii "ab\t7\nb\t3\n"
+pub listed : program_text (Some file) ≡ ascii "ab\t7\nb\t3\n"
 unfolding ascii compare_keys insert insert_all holds stretch decimal_from decimal are_digits value_after leading_zero is_decimal number_in key_part number_part tab_entry lines_of entry_lines entries_in tab_line tab_text map_text
 listed = program-writes.listed file whole
 
@@ -57,7 +57,7 @@ stops = record {
   cause = bad refl refl;
 }
 
-pub refused : program_text (some leading) ≡ ascii "refused 9 line 1\n"
+pub refused : program_text (Some leading) ≡ ascii "refused 9 line 1\n"
 unfolding ascii decimal_from decimal refused_text stops
 refused = program-writes.refused leading stops
 
@@ -79,7 +79,7 @@ stops-third = record {
   cause = empty_key ([], 3) refl refl refl;
 }
 
-pub refused-empty : program_text (some third) ≡ ascii "refused 3 line 3\n"
+pub refused-empty : program_text (Some third) ≡ ascii "refused 3 line 3\n"
 unfolding ascii decimal_from decimal refused_text stops-third
 refused-empty = program-writes.refused third stops-third
 
@@ -89,10 +89,10 @@ pub refused_full : (text : List ℕ) (before : List (List ℕ)) (line : List ℕ
     → entry_lines text ≡ before ++ (line ∷ after)
     → AllEntries before
     → length (prefixes (insert_all (entries_in before) [])) ≤ 2048
-    → tab_entry line ≡ some e
+    → tab_entry line ≡ Some e
     → ¬ (e.0 ≡ [])
     → 2048 < length (prefixes (insert e.0 e.1 (insert_all (entries_in before) [])))
-    → program_text (some text) ≡ refused_text 4 (1 + length before)
+    → program_text (Some text) ≡ refused_text 4 (1 + length before)
 refused_full text before line after e short cut entries few read nonempty many =
     program-writes.refused text (record {
       short = short;
@@ -106,21 +106,21 @@ refused_full text before line after e short cut entries few read nonempty many =
       cause = no_room e read nonempty many refl;
     })
 
-pub unread : program_text none ≡ ascii "no file\n"
+pub unread : program_text None ≡ ascii "no file\n"
 unfolding ascii
 unread = program-writes.unread
 
-pub long : (text : List ℕ) → 65537 ≤ length text → program_text (some text) ≡ ascii "too long\n"
+pub long : (text : List ℕ) → 65537 ≤ length text → program_text (Some text) ≡ ascii "too long\n"
 unfolding ascii
 long text h = program-writes.long text (omega (arith, h))
 
 -- nothing else is written of a file that was read
 pub three : (text : List ℕ)
-    → (program_text (some text) ≡ too_long_text) ⊎ ((program_text (some text) ≡ map_text (text_map text)) ⊎ ((number : ℕ) × (line : ℕ) × (program_text (some text) ≡ refused_text number line)))
+    → (program_text (Some text) ≡ too_long_text) ⊎ ((program_text (Some text) ≡ map_text (text_map text)) ⊎ ((number : ℕ) × (line : ℕ) × (program_text (Some text) ≡ refused_text number line)))
 three text = go (program-writes.cases text)
   where
     go : (file_limit < length text) ⊎ (Whole program_capacity text ⊎ FirstRefusal program_capacity text)
-        → (program_text (some text) ≡ too_long_text) ⊎ ((program_text (some text) ≡ map_text (text_map text)) ⊎ ((number : ℕ) × (line : ℕ) × (program_text (some text) ≡ refused_text number line)))
+        → (program_text (Some text) ≡ too_long_text) ⊎ ((program_text (Some text) ≡ map_text (text_map text)) ⊎ ((number : ℕ) × (line : ℕ) × (program_text (Some text) ≡ refused_text number line)))
     go (inl h) = inl (program-writes.long text h)
     go (inr (inl w)) = inr (inl (program-writes.listed text w))
     go (inr (inr r)) = inr (inr (r.number, 1 + length r.before, program-writes.refused text r))

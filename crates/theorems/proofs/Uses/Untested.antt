@@ -8,14 +8,15 @@ use Prim.Native.Nat.{ℕ, zero, suc, ◌<◌}
 use native.Mathlib.Omega.{arith}
 use mathlib.Core.List.Memᴰ
 use mathlib.Core.List.{[], ◌∷◌}
-use mathlib.Core.Option.{Option, none, some, none-ne-some}
+use Rattle.std.specs.Prelude.{Option, None, Some}
+use Rattle.std.proofs.lemmas.Option.{none-ne-some}
 use Rattle.keymap.specs.Members.{In}
 use lib.ListN.{length, replicate, length-replicate}
 use Rattle.keymap.specs.Bits.{bit, sum_below, words_for}
 use Rattle.keymap.specs.Image.{Image, bits_for}
 use Rattle.louds.specs.Rank.{gap}
 use Rattle.louds.specs.Select.{kth}
-use Rattle.louds.specs.Nodes.{or_end, run_from, children_of}
+use Rattle.louds.specs.Nodes.{run_from, children_of}
 use Rattle.image.specs.Accept.{node_entry, node_value}
 use Rattle.image.specs.AcceptTest.{lengths_fit}
 use Rattle.walks.specs.Rule.{matches, is_child_by, lowest_by, child_by, walked_from, value_of_node, node_by, found_by}
@@ -73,18 +74,18 @@ same_bits (suc (suc (suc (suc (suc (suc (suc (suc zero)))))))) l = refl
 same_bits (suc (suc (suc (suc (suc (suc (suc (suc (suc p))))))))) l = absurd (omega (arith, l))
 
 -- what the two queries meet, where they end, and what is found there
-met-b : (met image_a b ≡ 2 ∷ 3 ∷ []) × (node_by image_a b ≡ some 3) × (found_by image_a b ≡ some 3)
-unfolding met_from counted value_of_node walked_from child_by lowest_by is_child_by matches children_of run_from kth or_end gap bit sum_below
+met-b : (met image_a b ≡ 2 ∷ 3 ∷ []) × (node_by image_a b ≡ Some 3) × (found_by image_a b ≡ Some 3)
+unfolding met_from counted value_of_node walked_from child_by lowest_by is_child_by matches children_of run_from kth gap bit sum_below
 met-b = (refl, refl, refl)
 
-met-a : (met image_a a ≡ 2 ∷ 3 ∷ []) × (node_by image_a a ≡ some 2) × (found_by image_a a ≡ none)
-unfolding met_from counted value_of_node walked_from child_by lowest_by is_child_by matches children_of run_from kth or_end gap bit sum_below
+met-a : (met image_a a ≡ 2 ∷ 3 ∷ []) × (node_by image_a a ≡ Some 2) × (found_by image_a a ≡ None)
+unfolding met_from counted value_of_node walked_from child_by lowest_by is_child_by matches children_of run_from kth gap bit sum_below
 met-a = (refl, refl, refl)
 
-some_one : (m n : ℕ) → ◌≡◌ {A = Option ℕ} (some m) (some n) → m ≡ n
+some_one : (m n : ℕ) → ◌≡◌ {A = Option ℕ} (Some m) (Some n) → m ≡ n
 some_one m n e = cc
 
-none-some : (m : ℕ) → ◌≡◌ {A = Option ℕ} none (some m) → ⊥
+none-some : (m : ℕ) → ◌≡◌ {A = Option ℕ} None (Some m) → ⊥
 none-some m e = none-ne-some m e
 
 entry-met : (m : ℕ) → In m (2 ∷ 3 ∷ []) → node_entry image_a m ≡ node_entry other m
@@ -117,8 +118,8 @@ alike-a = record {
 abbrev lone : ℕ → Image
 lone entry = record { labels = entry ∷ []; values = entry ∷ []; words = 2 ∷ [] }
 
-met-lone : (met (lone 353) a ≡ []) × (found_by (lone 353) a ≡ none)
-unfolding met_from counted value_of_node walked_from child_by lowest_by is_child_by matches children_of run_from kth or_end gap bit sum_below
+met-lone : (met (lone 353) a ≡ []) × (found_by (lone 353) a ≡ None)
+unfolding met_from counted value_of_node walked_from child_by lowest_by is_child_by matches children_of run_from kth gap bit sum_below
 met-lone = (refl, refl)
 
 alike-lone : Alike (lone 353) (lone 610) a
@@ -135,7 +136,7 @@ alike-lone = record {
 abbrev shorter : Image
 shorter = record { labels = 1 ∷ 2 ∷ 3 ∷ []; values = []; words = 45 ∷ [] }
 
-met-nothing : (met short [] ≡ []) × (found_by short [] ≡ none)
+met-nothing : (met short [] ≡ []) × (found_by short [] ≡ None)
 unfolding met_from value_of_node walked_from
 met-nothing = (refl, refl)
 

@@ -16,7 +16,7 @@ use native.Mathlib.Omega.{arith}
 use mathlib.Core.Bool.{Bool, true, false, true≢false}
 use mathlib.Core.List.Memᴰ
 use mathlib.Core.List.{List, [], ◌∷◌, ◌++◌}
-use mathlib.Core.Option.{Option, none, some}
+use Rattle.std.specs.Prelude.{Option, None, Some}
 use lib.ListN.{length, get_or, length-append}
 use lib.Dec.{eqb, ltb, leb}
 use borrow.Author.Tests.{le-leb, eq-eqb, ne_eqb, ltb-true, leb-true, eqb-true, eqb-false}
@@ -36,7 +36,6 @@ use Rattle.louds.proofs.Laws.MapNodes.{ChildrenOf, children-node}
 use Rattle.image.specs.Accept.{entries}
 use Rattle.image.specs.Meaning.{MapImage}
 use Rattle.walks.specs.declared.stands.Stand.{Stand}
-use Rattle.walks.specs.declared.moves.Reached.TheVariants.{To, NoPath}
 use Rattle.walks.specs.declared.glide.Glided.{Glided}
 use Rattle.walks.specs.Rule.{counts, value_of_node}
 use Rattle.walks.specs.Stands.{stand_at, kids_from, kid_from}
@@ -58,11 +57,11 @@ module _ (n k m : ℕ) where
       go false f t g = absurd (true≢false (sym e ∙ rw f))
 
 module _ (ls vs : List ℕ) (b : ℕ → ℕ) (len : ℕ) (s : Stand) where
-  pub through-valued : (v : ℕ) → value_of_node ls vs s.node ≡ some v → goes_through ls vs b len s ≡ false
+  pub through-valued : (v : ℕ) → value_of_node ls vs s.node ≡ Some v → goes_through ls vs b len s ≡ false
   unfolding goes_through
   through-valued v e = rw e
 
-  module _ (bare : value_of_node ls vs s.node ≡ none) where
+  module _ (bare : value_of_node ls vs s.node ≡ None) where
     pub through-parted : ¬ ((kids_from b len s).count ≡ 1) → goes_through ls vs b len s ≡ false
     unfolding goes_through
     through-parted h = rw (bare, ne_eqb (kids_from b len s).count 1 h)
@@ -81,34 +80,34 @@ module _ (ls vs : List ℕ) (b : ℕ → ℕ) (len : ℕ) (s : Stand) where
   through-told e = go (value_of_node ls vs s.node) refl (eqb (kids_from b len s).count 1) refl
     where
       go : (o : Option ℕ) → value_of_node ls vs s.node ≡ o → (t : Bool) → eqb (kids_from b len s).count 1 ≡ t → Through
-      go (some v) f t g = absurd (true≢false (sym e ∙ through-valued v f))
-      go none f false g = absurd (true≢false (sym e ∙ through-parted f (eqb-false _ _ g)))
-      go none f true g =
+      go (Some v) f t g = absurd (true≢false (sym e ∙ through-valued v f))
+      go None f false g = absurd (true≢false (sym e ∙ through-parted f (eqb-false _ _ g)))
+      go None f true g =
           let (above, within) = counts-told (length ls) s.node (kids_from b len s).first (sym (through-kid f (eqb-true _ _ g)) ∙ e) in
           record { above = above; within = within }
 
-  pub onward-goes : goes_through ls vs b len s ≡ true → onward_from ls vs b len s ≡ To (kid_from b len s.node (kids_from b len s).next (kids_from b len s).first)
+  pub onward-goes : goes_through ls vs b len s ≡ true → onward_from ls vs b len s ≡ Some (kid_from b len s.node (kids_from b len s).next (kids_from b len s).first)
   unfolding onward_from only_kid
   onward-goes e = rw e
 
-  pub onward_stops : goes_through ls vs b len s ≡ false → onward_from ls vs b len s ≡ NoPath
+  pub onward_stops : goes_through ls vs b len s ≡ false → onward_from ls vs b len s ≡ None
   unfolding onward_from
   onward_stops e = rw e
 
-  pub onward-to : (t : Stand) → onward_from ls vs b len s ≡ To t → (goes_through ls vs b len s ≡ true) × (only_kid b len s ≡ t)
+  pub onward-to : (t : Stand) → onward_from ls vs b len s ≡ Some t → (goes_through ls vs b len s ≡ true) × (only_kid b len s ≡ t)
   unfolding onward_from
   onward-to t e = go (goes_through ls vs b len s) refl
     where
       go : (x : Bool) → goes_through ls vs b len s ≡ x → (goes_through ls vs b len s ≡ true) × (only_kid b len s ≡ t)
-      go true f = let same : To (only_kid b len s) ≡ To t = rw f at e in (f, cc)
-      go false f = let never : NoPath ≡ To t = rw f at e in let z : ◌≡◌ {A = ℕ} 0 1 = cc in absurd (omega arith)
+      go true f = let same : Some (only_kid b len s) ≡ Some t = rw f at e in (f, cc)
+      go false f = let never : None ≡ Some t = rw f at e in let z : ◌≡◌ {A = ℕ} 0 1 = cc in absurd (omega arith)
 
-  pub onward-end : onward_from ls vs b len s ≡ NoPath → goes_through ls vs b len s ≡ false
+  pub onward-end : onward_from ls vs b len s ≡ None → goes_through ls vs b len s ≡ false
   unfolding onward_from
   onward-end e = go (goes_through ls vs b len s) refl
     where
       go : (x : Bool) → goes_through ls vs b len s ≡ x → goes_through ls vs b len s ≡ false
-      go true f = let never : To (only_kid b len s) ≡ NoPath = rw f at e in let z : ◌≡◌ {A = ℕ} 0 1 = cc in absurd (omega arith)
+      go true f = let never : Some (only_kid b len s) ≡ None = rw f at e in let z : ◌≡◌ {A = ℕ} 0 1 = cc in absurd (omega arith)
       go false f = f
 
 -- ---- the glide, on any bits
@@ -219,10 +218,10 @@ module _ (i : Image) (h : MapImage i) where
       run : KidsPath i h k d
       run = kids-path i h k n d
 
-      several : value_of_node i.labels i.values k ≡ none → ¬ (degree m p ≡ 1) → through k ≡ false
+      several : value_of_node i.labels i.values k ≡ None → ¬ (degree m p ≡ 1) → through k ≡ false
       several bare s = through-parted i.labels i.values (bit i.words) (bits_for (entries i)) (stood k) bare (λ e. s (sym run.count-is ∙ e))
 
-      by-kids : lookup p m ≡ none → value_of_node i.labels i.values k ≡ none → Fork m p → Going k
+      by-kids : lookup p m ≡ None → value_of_node i.labels i.values k ≡ None → Fork m p → Going k
       by-kids absent bare (ends none_below e) =
           part (several bare (λ one. omega (arith, e, one)))
           (common-ends m p (path_of-in m k n) (λ b. let (v, f) = ends-valued m h.catalogue.rising p b none_below in let z : ◌≡◌ {A = ℕ} 0 1 = cc in omega arith))
@@ -244,10 +243,10 @@ module _ (i : Image) (h : MapImage i) where
       by-kids absent bare (parts two e) = part (several bare (λ one. omega (arith, e, one))) (common-parted m p two).0
 
       value : (o : Option ℕ) → lookup p m ≡ o → Going k
-      value (some v) e =
+      value (Some v) e =
           part (through-valued i.labels i.values (bit i.words) (bits_for (entries i)) (stood k) v (node-value i h k n ∙ e))
           (common-valued m h.catalogue.rising p v e)
-      value none e = by-kids e (node-value i h k n ∙ e) (fork m h.catalogue.rising p)
+      value None e = by-kids e (node-value i h k n ∙ e) (fork m h.catalogue.rising p)
 
   -- where a glide ends that made some steps up to a node
   abbrev ending : ℕ → ℕ → Glided

@@ -25,7 +25,7 @@ use Rattle.keymap.specs.Paths.{nodes, IsNode, is_node, path_of}
 use Rattle.keymap.specs.Decode.{image_map}
 use Rattle.keymap.proofs.Laws.Image.{length-image_labels, length-image_values}
 use Rattle.keymap.proofs.Laws.Paths.{labels-node, values-node}
-use Rattle.louds.specs.declared.answers.Children.TheVariants.{Run}
+use Rattle.louds.specs.Nodes.{Run}
 use Rattle.louds.specs.Nodes.{children_of}
 use Rattle.louds.proofs.Laws.MapNodes.{map_bits, map_length, ChildrenOf}
 use Rattle.image.specs.Accept.{entries}

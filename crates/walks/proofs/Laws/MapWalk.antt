@@ -16,7 +16,7 @@ use native.Mathlib.Decide.{dec_le}
 use native.Mathlib.Omega.{arith}
 use mathlib.Core.Bool.{Bool, true, false, true≢false}
 use mathlib.Core.List.{[], ◌∷◌, ◌++◌, append_assoc, append-nil}
-use mathlib.Core.Option.{Option, none, some}
+use Rattle.std.specs.Prelude.{Option, None, Some}
 use lib.ListN.{length, get_or, length-append}
 use borrow.Author.Tests.{le-leb, lt-leb}
 use Rattle.keymap.specs.Members.{In}
@@ -46,22 +46,22 @@ use Rattle.walks.proofs.Laws.MapImage.{length-nodes, length-values, entry-node, 
 -- ---- the node at a path
 
 module _ (m : Map) (p : Key) where
-  pub node_at-there : In p (nodes m) → node_at m p ≡ some (node_of m p)
+  pub node_at-there : In p (nodes m) → node_at m p ≡ Some (node_of m p)
   unfolding node_at
   node_at-there n = rw ((is_path-iff m p).1 n)
 
-  pub node_at-none : ¬ In p (nodes m) → node_at m p ≡ none
+  pub node_at-none : ¬ In p (nodes m) → node_at m p ≡ None
   unfolding node_at
   node_at-none n = go (is_path m p) refl
     where
-      go : (t : Bool) → is_path m p ≡ t → node_at m p ≡ none
+      go : (t : Bool) → is_path m p ≡ t → node_at m p ≡ None
       go true e = absurd (n ((is_path-iff m p).0 e))
       go false e = rw e
 
 -- a path is a node's or not
 pub data PathTold (m : Map) (p : Key) : Type 0 where
-  there : In p (nodes m) → node_at m p ≡ some (node_of m p) → PathTold m p
-  absent : ¬ In p (nodes m) → node_at m p ≡ none → PathTold m p
+  there : In p (nodes m) → node_at m p ≡ Some (node_of m p) → PathTold m p
+  absent : ¬ In p (nodes m) → node_at m p ≡ None → PathTold m p
 
 pub path-told : (m : Map) (p : Key) → PathTold m p
 path-told m p = go (is_path m p) refl
@@ -137,7 +137,7 @@ module _ (i : Image) (h : MapImage i) where
           let label : own.byte ≡ a = sym own.child.label ∙ ap (λ (x : ℕ). label_in (get_or i.labels (x - 2) 0)) same ∙ (is_child_by-told i.labels k c a e).label in
           let inside : IsNode m c = rw same at own.inside in
           let path : path_of m c ≡ p ++ (a ∷ []) = ap (path_of m) (sym same) ∙ own.path ∙ ap (λ (x : ℕ). p ++ (x ∷ [])) label in
-          sym (ap (node_at m) (sym path) ∙ node_at-there m (path_of m c) (path_of-in m c inside) ∙ ap some (node_of-path_of m h.catalogue.rising c inside))
+          sym (ap (node_at m) (sym path) ∙ node_at-there m (path_of m c) (path_of-in m c inside) ∙ ap Some (node_of-path_of m h.catalogue.rising c inside))
       go _ (missed f) = sym (node_at-none m (p ++ (a ∷ [])) nowhere)
         where
           child : SomeBegins (p ++ (a ∷ [])) m → ⊥
@@ -179,8 +179,8 @@ module _ (i : Image) (h : MapImage i) where
       ∙ ap (node_at (image_map i)) (append_assoc p (a ∷ []) q)
 
   -- the root is node 1
-  pub root-rule : node_at (image_map i) [] ≡ some 1
-  root-rule = node_at-there (image_map i) [] ((nodes-iff (image_map i) []).1 (inl refl)) ∙ ap some (node_of-root (image_map i))
+  pub root-rule : node_at (image_map i) [] ≡ Some 1
+  root-rule = node_at-there (image_map i) [] ((nodes-iff (image_map i) []).1 (inl refl)) ∙ ap Some (node_of-root (image_map i))
 
   pub walk-rule : (q : Key) → node_by i q ≡ node_at (image_map i) q
   walk-rule q = ap (walked_from i.labels (bit i.words) (bits_for (entries i)) q) (sym root-rule) ∙ walk_from q []

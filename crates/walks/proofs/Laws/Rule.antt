@@ -19,14 +19,14 @@ use native.Mathlib.Numerals.{add-one}
 use native.Mathlib.Omega.{arith}
 use mathlib.Core.Bool.{Bool, true, false, true≢false}
 use mathlib.Core.List.{List, [], ◌∷◌}
-use mathlib.Core.Option.{Option, none, some}
+use Rattle.std.specs.Prelude.{Option, None, Some}
 use lib.ListN.{length, get_or, drop}
 use lib.Seq.{drop-cons}
 use lib.Dec.{eqb, leb}
 use borrow.Author.Tests.{lt-ltb, le-ltb, le-leb, lt-leb, eq-eqb, eqb-true}
 use Rattle.keymap.specs.Key.{Key}
 use Rattle.keymap.specs.Label.{mark, label_in}
-use Rattle.louds.specs.declared.answers.Children.TheVariants.{Run, NoNode}
+use Rattle.louds.specs.Nodes.{Run}
 use Rattle.louds.specs.Nodes.{children_of}
 use Rattle.walks.specs.Rule.{is_node_of, counts_to, matches, is_child_by, lowest_by, child_by, step_by, walked_from, value_of_node}
 
@@ -124,7 +124,7 @@ is_child_by-late ls k m a h = go (dec_le m k)
 
 -- ---- the search
 
-pub lowest_by-end : (ls : List ℕ) (k m a : ℕ) → lowest_by ls k 0 m a ≡ none
+pub lowest_by-end : (ls : List ℕ) (k m a : ℕ) → lowest_by ls k 0 m a ≡ None
 unfolding lowest_by
 lowest_by-end ls k m a = refl
 
@@ -132,7 +132,7 @@ module _ (ls : List ℕ) (k left m a : ℕ) (more : 0 < left) where
   back : suc (left - 1) ≡ left
   back = omega arith
 
-  pub lowest_by-here : is_child_by ls k m a ≡ true → lowest_by ls k left m a ≡ some m
+  pub lowest_by-here : is_child_by ls k m a ≡ true → lowest_by ls k left m a ≡ Some m
   unfolding lowest_by
   lowest_by-here e = ap (λ (n : ℕ). lowest_by ls k n m a) (sym back) ∙ rw e
 
@@ -140,15 +140,15 @@ module _ (ls : List ℕ) (k left m a : ℕ) (more : 0 < left) where
   unfolding lowest_by
   lowest_by-past e = ap (λ (n : ℕ). lowest_by ls k n m a) (sym back) ∙ rw e
 
-pub lowest_by-late : (left : ℕ) (ls : List ℕ) (k m a : ℕ) → length ls + 1 < m → lowest_by ls k left m a ≡ none
+pub lowest_by-late : (left : ℕ) (ls : List ℕ) (k m a : ℕ) → length ls + 1 < m → lowest_by ls k left m a ≡ None
 unfolding lowest_by
 lowest_by-late zero ls k m a h = refl
 lowest_by-late (suc left) ls k m a h = rw (is_child_by-late ls k m a h) (lowest_by-late left ls k (m + 1) a (omega arith))
 
 -- what the search says of `left` numbers from m on
 pub data LowestTold (ls : List ℕ) (k left m a : ℕ) : Option ℕ → Type 0 where
-  found : (c : ℕ) → m ≤ c → c < m + left → is_child_by ls k c a ≡ true → LowestTold ls k left m a (some c)
-  missed : ((c : ℕ) → m ≤ c → c < m + left → is_child_by ls k c a ≡ false) → LowestTold ls k left m a none
+  found : (c : ℕ) → m ≤ c → c < m + left → is_child_by ls k c a ≡ true → LowestTold ls k left m a (Some c)
+  missed : ((c : ℕ) → m ≤ c → c < m + left → is_child_by ls k c a ≡ false) → LowestTold ls k left m a None
 
 pub lowest-told : (left : ℕ) (ls : List ℕ) (k m a : ℕ) → LowestTold ls k left m a (lowest_by ls k left m a)
 unfolding lowest_by
@@ -170,7 +170,7 @@ lowest-told (suc left) ls k m a = go (is_child_by ls k m a) refl (lowest-told le
 -- ---- the child of a node, and a walk
 
 module _ (ls : List ℕ) (b : ℕ → ℕ) (len : ℕ) where
-  pub child_by-none : (k a : ℕ) → children_of b len k ≡ NoNode → child_by ls b len k a ≡ none
+  pub child_by-none : (k a : ℕ) → children_of b len k ≡ None → child_by ls b len k a ≡ None
   unfolding child_by
   child_by-none k a e = rw e
 
@@ -188,13 +188,13 @@ module _ (ls : List ℕ) (b : ℕ → ℕ) (len : ℕ) where
 
   -- along a query, from behind its first j bytes on
   pub walked_from-next : (q : Key) (j k : ℕ) → j < length q
-      → walked_from ls b len (drop j q) (some k) ≡ walked_from ls b len (drop (j + 1) q) (child_by ls b len k (get_or q j 0))
+      → walked_from ls b len (drop j q) (Some k) ≡ walked_from ls b len (drop (j + 1) q) (child_by ls b len k (get_or q j 0))
   walked_from-next q j k h =
-      ap (λ (r : Key). walked_from ls b len r (some k)) (drop-cons q j 0 h)
-      ∙ walked_from-step (get_or q j 0) (drop (suc j) q) (some k)
+      ap (λ (r : Key). walked_from ls b len r (Some k)) (drop-cons q j 0 h)
+      ∙ walked_from-step (get_or q j 0) (drop (suc j) q) (Some k)
       ∙ ap (λ (n : ℕ). walked_from ls b len (drop n q) (child_by ls b len k (get_or q j 0))) (sym (add-one j))
 
-  pub walked_from-lost : (q : Key) → walked_from ls b len q none ≡ none
+  pub walked_from-lost : (q : Key) → walked_from ls b len q None ≡ None
   unfolding walked_from
   walked_from-lost [] = refl
   walked_from-lost (a ∷ q) = walked_from-lost q
@@ -202,25 +202,25 @@ module _ (ls : List ℕ) (b : ℕ → ℕ) (len : ℕ) where
 -- ---- values
 
 module _ (ls vs : List ℕ) (m : ℕ) where
-  pub value_of_node-root : m < 2 → value_of_node ls vs m ≡ none
+  pub value_of_node-root : m < 2 → value_of_node ls vs m ≡ None
   unfolding value_of_node
   value_of_node-root h = rw (lt-leb 2 m h)
 
   module _ (two : 2 ≤ m) where
-    pub value_of_node-short : length vs ≤ m - 2 → value_of_node ls vs m ≡ none
+    pub value_of_node-short : length vs ≤ m - 2 → value_of_node ls vs m ≡ None
     unfolding value_of_node
     value_of_node-short h = rw (le-leb 2 m two, le-ltb (m - 2) (length vs) h)
 
     module _ (inside : m - 2 < length vs) where
-      pub value_of_node-plain : get_or ls (m - 2) 0 < mark → value_of_node ls vs m ≡ none
+      pub value_of_node-plain : get_or ls (m - 2) 0 < mark → value_of_node ls vs m ≡ None
       unfolding value_of_node
       value_of_node-plain h = rw (le-leb 2 m two, lt-ltb (m - 2) (length vs) inside, lt-leb mark (get_or ls (m - 2) 0) h)
 
       module _ (marked : mark ≤ get_or ls (m - 2) 0) where
-        pub value_of_node-large : 2 * mark ≤ get_or ls (m - 2) 0 → value_of_node ls vs m ≡ none
+        pub value_of_node-large : 2 * mark ≤ get_or ls (m - 2) 0 → value_of_node ls vs m ≡ None
         unfolding value_of_node
         value_of_node-large h = rw (le-leb 2 m two, lt-ltb (m - 2) (length vs) inside, le-leb mark (get_or ls (m - 2) 0) marked, le-ltb (get_or ls (m - 2) 0) (2 * mark) h)
 
-        pub value_of_node-held : get_or ls (m - 2) 0 < 2 * mark → value_of_node ls vs m ≡ some (get_or vs (m - 2) 0)
+        pub value_of_node-held : get_or ls (m - 2) 0 < 2 * mark → value_of_node ls vs m ≡ Some (get_or vs (m - 2) 0)
         unfolding value_of_node
         value_of_node-held h = rw (le-leb 2 m two, lt-ltb (m - 2) (length vs) inside, le-leb mark (get_or ls (m - 2) 0) marked, lt-ltb (get_or ls (m - 2) 0) (2 * mark) h)

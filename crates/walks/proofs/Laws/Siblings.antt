@@ -12,7 +12,7 @@ use native.Mathlib.Decide.{dec_le}
 use native.Mathlib.Omega.{arith}
 use mathlib.Core.Bool.{Bool, true, false}
 use mathlib.Core.List.{List}
-use mathlib.Core.Option.{Option, none, some}
+use Rattle.std.specs.Prelude.{Option, None, Some}
 use lib.Dec.{eqb, lit<}
 use lib.ListN.{length, get_or}
 use lib.Bits.{bit_and, and_block, and_high, and_mask}
@@ -105,7 +105,7 @@ module _ (ls : List ℕ) (k a : ℕ) where
         let e : at + 1 - 2 ≡ at - 1 = omega arith in
         is_child_by-entry ls k (at + 1) a (omega (arith, one)) (omega (arith, above)) (omega (arith, more, within)) ∙ ap (λ (x : ℕ). matches (get_or ls x 0) a) e
 
-    pub among-here : matches (get_or ls (at - 1) 0) a ≡ true → lowest_by ls k (high - at) (at + 1) a ≡ some (at + 1)
+    pub among-here : matches (get_or ls (at - 1) 0) a ≡ true → lowest_by ls k (high - at) (at + 1) a ≡ Some (at + 1)
     among-here e = lowest_by-here ls k (high - at) (at + 1) a (omega (arith, more)) (entry_of ∙ e)
 
     pub among-past : matches (get_or ls (at - 1) 0) a ≡ false → lowest_by ls k (high - at) (at + 1) a ≡ lowest_by ls k (high - (at + 1)) (at + 1 + 1) a
@@ -113,14 +113,14 @@ module _ (ls : List ℕ) (k a : ℕ) where
         let f : high - at - 1 ≡ high - (at + 1) = omega arith in
         lowest_by-past ls k (high - at) (at + 1) a (omega (arith, more)) (entry_of ∙ e) ∙ ap (λ (x : ℕ). lowest_by ls k x (at + 1 + 1) a) f
 
-  pub among-end : (at high : ℕ) → high ≤ at → lowest_by ls k (high - at) (at + 1) a ≡ none
+  pub among-end : (at high : ℕ) → high ≤ at → lowest_by ls k (high - at) (at + 1) a ≡ None
   among-end at high l = let e : high - at ≡ 0 = omega arith in ap (λ (x : ℕ). lowest_by ls k x (at + 1) a) e ∙ lowest_by-end ls k (at + 1) a
 
 -- a child found is above its node, and has an entry
-pub lowest-bounds : (ls : List ℕ) (k left m a c : ℕ) → lowest_by ls k left m a ≡ some c → (k < c) × (c ≤ length ls + 1)
+pub lowest-bounds : (ls : List ℕ) (k left m a c : ℕ) → lowest_by ls k left m a ≡ Some c → (k < c) × (c ≤ length ls + 1)
 lowest-bounds ls k left m a c e = go (lowest_by ls k left m a) e (lowest-told left ls k m a)
   where
-    go : (o : Option ℕ) → o ≡ some c → LowestTold ls k left m a o → (k < c) × (c ≤ length ls + 1)
+    go : (o : Option ℕ) → o ≡ Some c → LowestTold ls k left m a o → (k < c) × (c ≤ length ls + 1)
     go _ q (found d l u f) =
         let same : d ≡ c = cc in
         let t = is_child_by-told ls k d a f in

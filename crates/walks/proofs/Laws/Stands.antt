@@ -18,17 +18,14 @@ use native.Mathlib.Numerals.{add-one}
 use native.Mathlib.Omega.{arith}
 use mathlib.Core.Bool.{Bool, true, false, true≢false}
 use mathlib.Core.List.{List, [], ◌∷◌}
-use mathlib.Core.Option.{Option, none, some}
+use Rattle.std.specs.Prelude.{Option, None, Some, unwrap_or}
 use lib.Dec.{ltb, leb}
 use lib.ListN.{length, get_or, drop}
 use lib.Seq.{drop-cons}
 use borrow.Author.Tests.{lt-ltb, le-ltb, le-leb, lt-leb, ltb-true, leb-true}
-use Rattle.louds.specs.declared.answers.Spot.{Spot}
-use Rattle.louds.specs.declared.answers.Spot.TheVariants.{At, Missing}
-use Rattle.louds.specs.declared.answers.Children.TheVariants.{Run, NoNode}
 use Rattle.louds.specs.Rank.{gap}
 use Rattle.louds.specs.Select.{onward, zero_at, zero_from}
-use Rattle.louds.specs.Nodes.{or_end, children_of}
+use Rattle.louds.specs.Nodes.{Run, children_of}
 use Rattle.louds.proofs.Laws.Rank.{gap-small, ones-zeros}
 use Rattle.louds.proofs.Laws.Select.{Stands, kth-zero, kth-told, onward-before, rank-kth, kth-missing, kth-next, kth-onward}
 use Rattle.louds.proofs.Laws.Nodes.{children-none, children-at, children-told}
@@ -37,12 +34,8 @@ use Rattle.keymap.specs.Bits.{sum_below}
 use Rattle.keymap.proofs.Laws.Sums.{sum_below-mono, sum_below-next}
 use Rattle.walks.specs.declared.stands.Stand.{Stand}
 use Rattle.walks.specs.declared.answers.Kids.{Kids}
-use Rattle.walks.specs.declared.entries.Child.TheVariants.{Node, Absent}
-use Rattle.walks.specs.declared.entries.Held.TheVariants.{Value, NoValue}
-use Rattle.walks.specs.declared.moves.Reached.{Reached}
-use Rattle.walks.specs.declared.moves.Reached.TheVariants.{To, NoPath}
 use Rattle.walks.specs.Rule.{lowest_by, child_by, walked_from}
-use Rattle.walks.specs.Stands.{stand_at, is_stand, next_zero, kids_from, kid_from, child_of, held_of, to_kid, down_from, down_along, reached_at}
+use Rattle.walks.specs.Stands.{stand_at, is_stand, next_zero, kids_from, kid_from, to_kid, down_from, down_along, reached_at}
 use Rattle.walks.proofs.Laws.Rule.{is_child_by-told, LowestTold, found, missed, lowest-told, lowest_by-end, child_by-none, child_by-run}
 
 -- ---- the test of a place
@@ -74,10 +67,10 @@ module _ (b : ℕ → ℕ) (len : ℕ) (s : Stand) where
   kids_from-some e = rw e
 
 pub kid_from-below : (b : ℕ → ℕ) (len k next m : ℕ) → m < k → kid_from b len k next m ≡ record { node = m; zero = len }
-unfolding kid_from or_end
+unfolding kid_from
 kid_from-below b len k next m h =
     let none_left : m - k ≡ 0 = omega arith in
-    let z : or_end len (zero_from b len next (m - k)) ≡ len = ap (or_end len) (ap (zero_from b len next) none_left ∙ kth-zero (onward next (gap b)) len) in
+    let z : unwrap_or (zero_from b len next (m - k)) len ≡ len = ap (λ (o : Option ℕ). unwrap_or o len) (ap (zero_from b len next) none_left ∙ kth-zero (onward next (gap b)) len) in
     λ x. record { node = m; zero = z x }
 
 -- the stand test, told
@@ -96,24 +89,22 @@ is_stand-told len k p e = go (ltb p len) refl (leb 1 k) refl (leb k (p + 1)) ref
 
 -- the next zero, or the end, is behind
 pub next_zero-ahead : (b : ℕ → ℕ) (len p : ℕ) → p < len → p + 1 ≤ next_zero b len p
-unfolding or_end
 next_zero-ahead b len p h = go (zero_from b len (p + 1) 1) refl
   where
-    go : (t : Spot) → zero_from b len (p + 1) 1 ≡ t → p + 1 ≤ or_end len (zero_from b len (p + 1) 1)
-    go (At q) e = rw e (far (dec_le (p + 1) q))
+    go : (t : (Option ℕ)) → zero_from b len (p + 1) 1 ≡ t → p + 1 ≤ unwrap_or (zero_from b len (p + 1) 1) len
+    go (Some q) e = rw e (far (dec_le (p + 1) q))
       where
         far : Dec (p + 1 ≤ q) → p + 1 ≤ q
         far (yes l) = l
         far (no l) = absurd (omega (arith, kth-told (onward (p + 1) (gap b)) len 1 q e, onward-before (gap b) (p + 1) q (lt_of_not-le l)))
-    go Missing e = rw e (omega arith)
+    go None e = rw e (omega arith)
 
 next_zero-within : (b : ℕ → ℕ) (len p : ℕ) → next_zero b len p ≤ len
-unfolding or_end
 next_zero-within b len p = go (zero_from b len (p + 1) 1) refl
   where
-    go : (t : Spot) → zero_from b len (p + 1) 1 ≡ t → or_end len (zero_from b len (p + 1) 1) ≤ len
-    go (At q) e = rw e (omega (arith, (kth-told (onward (p + 1) (gap b)) len 1 q e).inside))
-    go Missing e = rw e (omega arith)
+    go : (t : (Option ℕ)) → zero_from b len (p + 1) 1 ≡ t → unwrap_or (zero_from b len (p + 1) 1) len ≤ len
+    go (Some q) e = rw e (omega (arith, (kth-told (onward (p + 1) (gap b)) len 1 q e).inside))
+    go None e = rw e (omega arith)
 
 -- the numbers of the children: none where the first is 0, and else inside the bits
 pub record Numbered (first count len : ℕ) : Type 0 where
@@ -144,60 +135,57 @@ zero-near b len from left k l sum = kth-onward (gap b) from len left l ∙ ap (z
 
 module _ (b : ℕ → ℕ) (small : (i : ℕ) → b i ≤ 1) (len : ℕ) where
   -- where node k's zero is missing it has no children, as the rule says
-  lost : (k : ℕ) → zero_at b len k ≡ Missing → kids_from b len (stand_at b len k) ≡ record { first = 0; count = 0; next = len }
-  unfolding or_end
-  lost k e = kids_from-none b len (stand_at b len k) (is_stand-far len k (or_end len (zero_at b len k)) (rw e (omega arith)))
+  lost : (k : ℕ) → zero_at b len k ≡ None → kids_from b len (stand_at b len k) ≡ record { first = 0; count = 0; next = len }
+  lost k e = kids_from-none b len (stand_at b len k) (is_stand-far len k (unwrap_or (zero_at b len k) len) (rw e (omega arith)))
 
   -- the zero of node k is there: the next one, and the children by the two
   record Here (k p : ℕ) : Type 0 where
     test : is_stand len k p ≡ true
-    next : next_zero b len p ≡ or_end len (zero_at b len (k + 1))
+    next : next_zero b len p ≡ unwrap_or (zero_at b len (k + 1)) len
     rank : sum_below (gap b) p + 1 ≡ k
     inside : p < len
 
-  here : (k p : ℕ) → zero_at b len k ≡ At p → Here k p
+  here : (k p : ℕ) → zero_at b len k ≡ Some p → Here k p
   here k p e =
       let s = rank-kth (gap b) (gap-small b) len k p e in
       record {
         test = is_stand-node len k p s.inside (omega (arith, s)) ∙ le-leb k (p + 1) (omega (arith, s, ones-zeros b small p));
-        next = ap (or_end len) (kth-next (gap b) (gap-small b) len k 1 p e (omega arith));
+        next = ap (λ (o : Option ℕ). unwrap_or o len) (kth-next (gap b) (gap-small b) len k 1 p e (omega arith));
         rank = s.rank;
         inside = s.inside;
       }
 
   -- how many zeros stand before the zero behind the children, or before the end
-  zeros-before : (k p : ℕ) → zero_at b len k ≡ At p → sum_below (gap b) (or_end len (zero_at b len (k + 1))) ≡ k
-  unfolding or_end
+  zeros-before : (k p : ℕ) → zero_at b len k ≡ Some p → sum_below (gap b) (unwrap_or (zero_at b len (k + 1)) len) ≡ k
   zeros-before k p e = go (zero_at b len (k + 1)) refl
     where
       s : Stands (gap b) len k p
       s = rank-kth (gap b) (gap-small b) len k p e
 
-      go : (t : Spot) → zero_at b len (k + 1) ≡ t → sum_below (gap b) (or_end len (zero_at b len (k + 1))) ≡ k
-      go (At q) f = rw f (omega (arith, rank-kth (gap b) (gap-small b) len (k + 1) q f))
-      go Missing f =
+      go : (t : (Option ℕ)) → zero_at b len (k + 1) ≡ t → sum_below (gap b) (unwrap_or (zero_at b len (k + 1)) len) ≡ k
+      go (Some q) f = rw f (omega (arith, rank-kth (gap b) (gap-small b) len (k + 1) q f))
+      go None f =
           rw f
           (omega (arith, kth-missing (gap b) len (k + 1) (omega arith) f, sum_below-mono (gap b) {i = p + 1} {j = len} (omega (arith, s.inside)), sum_below-next (gap b) p, s.rank, s.marked))
 
   -- the children of a stand are its node's
-  pub kids-rule : (k p : ℕ) → zero_at b len k ≡ At p
+  pub kids-rule : (k p : ℕ) → zero_at b len k ≡ Some p
       → kids_from b len (stand_at b len k)
-      ≡ record { first = p + 1 - (k - 1); count = or_end len (zero_at b len (k + 1)) - (p + 1); next = or_end len (zero_at b len (k + 1)) }
-  unfolding or_end
+      ≡ record { first = p + 1 - (k - 1); count = unwrap_or (zero_at b len (k + 1)) len - (p + 1); next = unwrap_or (zero_at b len (k + 1)) len }
   kids-rule k p e =
       let h = here k p e in
       let s : Stand = record { node = k; zero = p } in
-      let z : or_end len (zero_at b len k) ≡ p = ap (or_end len) e in
+      let z : unwrap_or (zero_at b len k) len ≡ p = ap (λ (o : Option ℕ). unwrap_or o len) e in
       ap (kids_from b len) (λ x. record { node = k; zero = z x })
       ∙ kids_from-some b len s h.test
       ∙ (λ x. record { first = p + 1 - (k - 1); count = h.next x - (p + 1); next = h.next x })
 
-  pub kids-lost : (k : ℕ) → children_of b len k ≡ NoNode → kids_from b len (stand_at b len k) ≡ record { first = 0; count = 0; next = len }
+  pub kids-lost : (k : ℕ) → children_of b len k ≡ None → kids_from b len (stand_at b len k) ≡ record { first = 0; count = 0; next = len }
   kids-lost k e = go (zero_at b len k) refl
     where
-      go : (t : Spot) → zero_at b len k ≡ t → kids_from b len (stand_at b len k) ≡ record { first = 0; count = 0; next = len }
-      go (At p) f = let r = children-at b small len k p f in let z : ◌≡◌ {A = ℕ} 0 1 = cc in absurd (omega arith)
-      go Missing f = lost k f
+      go : (t : (Option ℕ)) → zero_at b len k ≡ t → kids_from b len (stand_at b len k) ≡ record { first = 0; count = 0; next = len }
+      go (Some p) f = let r = children-at b small len k p f in let z : ◌≡◌ {A = ℕ} 0 1 = cc in absurd (omega arith)
+      go None f = lost k f
 
   -- before the zero behind them, or the end, stand the ones of all numbers up to their last, and the zeros of k nodes
   pub record RunTold (k f c : ℕ) : Type 0 where
@@ -208,7 +196,7 @@ module _ (b : ℕ → ℕ) (small : (i : ℕ) → b i ≤ 1) (len : ℕ) where
   kids-run k f c e =
       let (p, r) = children-told b small len k f c e in
       let h = here k p r.answer in
-      let stop : ℕ = or_end len (zero_at b len (k + 1)) in
+      let stop : ℕ = unwrap_or (zero_at b len (k + 1)) len in
       let next : stop ≡ k + f + c - 1 = omega (arith, r.starts, r.size, h.rank, h.next, next_zero-ahead b len p h.inside, ones-zeros b small p) in
       record {
         kids = kids-rule k p r.answer ∙ (λ x. record { first = sym r.starts x; count = sym r.size x; next = next x });
@@ -216,12 +204,12 @@ module _ (b : ℕ → ℕ) (small : (i : ℕ) → b i ≤ 1) (len : ℕ) where
       }
 
   -- the child m of k, from the zero behind k's children on
-  pub kid-rule : (k p m : ℕ) → zero_at b len k ≡ At p → k < m → kid_from b len k (or_end len (zero_at b len (k + 1))) m ≡ stand_at b len m
+  pub kid-rule : (k p m : ℕ) → zero_at b len k ≡ Some p → k < m → kid_from b len k (unwrap_or (zero_at b len (k + 1)) len) m ≡ stand_at b len m
   unfolding kid_from
   kid-rule k p m e l =
-      let next : ℕ = or_end len (zero_at b len (k + 1)) in
+      let next : ℕ = unwrap_or (zero_at b len (k + 1)) len in
       let z : zero_from b len next (m - k) ≡ zero_at b len m = zero-near b len next (m - k) m (omega arith) (omega (arith, zeros-before k p e)) in
-      λ x. record { node = m; zero = or_end len (z x) }
+      λ x. record { node = m; zero = unwrap_or (z x) len }
 
   -- one step down goes where the rule goes
   pub down_rule : (ls : List ℕ) (k a : ℕ) → down_from ls b len (stand_at b len k) a ≡ reached_at b len (child_by ls b len k a)
@@ -229,20 +217,20 @@ module _ (b : ℕ → ℕ) (small : (i : ℕ) → b i ≤ 1) (len : ℕ) where
   down_rule ls k a = go (zero_at b len k) refl
     where
       -- the stand at a child that was found
-      kid : (p left m : ℕ) → zero_at b len k ≡ At p → (o : Option ℕ) → LowestTold ls k left m a o → to_kid b len k (or_end len (zero_at b len (k + 1))) o ≡ reached_at b len o
-      kid p left m e _ (found c l u f) = ap To (kid-rule k p c e (is_child_by-told ls k c a f).above)
+      kid : (p left m : ℕ) → zero_at b len k ≡ Some p → (o : Option ℕ) → LowestTold ls k left m a o → to_kid b len k (unwrap_or (zero_at b len (k + 1)) len) o ≡ reached_at b len o
+      kid p left m e _ (found c l u f) = ap Some (kid-rule k p c e (is_child_by-told ls k c a f).above)
       kid p left m e _ (missed f) = refl
 
-      go : (t : Spot) → zero_at b len k ≡ t → down_from ls b len (stand_at b len k) a ≡ reached_at b len (child_by ls b len k a)
-      go (At p) e =
+      go : (t : (Option ℕ)) → zero_at b len k ≡ t → down_from ls b len (stand_at b len k) a ≡ reached_at b len (child_by ls b len k a)
+      go (Some p) e =
           let h = here k p e in
-          let next : ℕ = or_end len (zero_at b len (k + 1)) in
+          let next : ℕ = unwrap_or (zero_at b len (k + 1)) len in
           let first : ℕ = p + 1 - (k - 1) in
           let count : ℕ = next - (p + 1) in
           ap (λ (c : Kids). to_kid b len k c.next (lowest_by ls k c.count c.first a)) (kids-rule k p e)
           ∙ kid p count first e (lowest_by ls k count first a) (lowest-told count ls k first a)
           ∙ ap (reached_at b len) (sym (child_by-run ls b len k a first count (children-at b small len k p e)))
-      go Missing e =
+      go None e =
           ap (λ (c : Kids). to_kid b len k c.next (lowest_by ls k c.count c.first a)) (lost k e)
           ∙ ap (to_kid b len k len) (lowest_by-end ls k 0 a)
           ∙ ap (reached_at b len) (sym (child_by-none ls b len k a (children-none b len k e)))
@@ -251,8 +239,8 @@ module _ (b : ℕ → ℕ) (small : (i : ℕ) → b i ≤ 1) (len : ℕ) where
   pub along-rule : (ls : List ℕ) (q : Key) (o : Option ℕ) → down_along ls b len q (reached_at b len o) ≡ reached_at b len (walked_from ls b len q o)
   unfolding down_along walked_from
   along-rule ls [] o = refl
-  along-rule ls (a ∷ q) none = along-rule ls q none
-  along-rule ls (a ∷ q) (some k) = ap (down_along ls b len q) (down_rule ls k a) ∙ along-rule ls q (child_by ls b len k a)
+  along-rule ls (a ∷ q) None = along-rule ls q None
+  along-rule ls (a ∷ q) (Some k) = ap (down_along ls b len q) (down_rule ls k a) ∙ along-rule ls q (child_by ls b len k a)
 
 -- ---- a walk along a query, from behind its first j bytes on
 
@@ -267,58 +255,58 @@ drop-over (suc j) (a ∷ q) h = drop-over j q (omega arith)
 
 module _ (ls : List ℕ) (b : ℕ → ℕ) (len : ℕ) where
   pub down_along-next : (q : Key) (j : ℕ) (s : Stand) → j < length q
-      → down_along ls b len (drop j q) (To s) ≡ down_along ls b len (drop (j + 1) q) (down_from ls b len s (get_or q j 0))
+      → down_along ls b len (drop j q) (Some s) ≡ down_along ls b len (drop (j + 1) q) (down_from ls b len s (get_or q j 0))
   unfolding down_along
   down_along-next q j s h =
-      ap (λ (r : Key). down_along ls b len r (To s)) (drop-cons q j 0 h)
+      ap (λ (r : Key). down_along ls b len r (Some s)) (drop-cons q j 0 h)
       ∙ ap (λ (n : ℕ). down_along ls b len (drop n q) (down_from ls b len s (get_or q j 0))) (sym (add-one j))
 
-  pub down_along-over : (q : Key) (j : ℕ) (at : Reached) → length q ≤ j → down_along ls b len (drop j q) at ≡ at
+  pub down_along-over : (q : Key) (j : ℕ) (at : (Option Stand)) → length q ≤ j → down_along ls b len (drop j q) at ≡ at
   unfolding down_along
   down_along-over q j at h = ap (λ (r : Key). down_along ls b len r at) (drop-over j q h)
 
-  pub down_along-lost : (q : Key) → down_along ls b len q NoPath ≡ NoPath
+  pub down_along-lost : (q : Key) → down_along ls b len q None ≡ None
   unfolding down_along
   down_along-lost [] = refl
   down_along-lost (a ∷ q) = down_along-lost q
 
 -- what an answer tells
 pub record ReachedTold (b : ℕ → ℕ) (len : ℕ) (o : Option ℕ) (t : Stand) : Type 0 where
-  pub node : o ≡ some t.node
+  pub node : o ≡ Some t.node
   pub knows : t ≡ stand_at b len t.node
 
-pub reached_at-to : (b : ℕ → ℕ) (len : ℕ) (o : Option ℕ) (t : Stand) → reached_at b len o ≡ To t → ReachedTold b len o t
-reached_at-to b len none t e = let z : ◌≡◌ {A = ℕ} 0 1 = cc in absurd (omega arith)
-reached_at-to b len (some k) t e =
+pub reached_at-to : (b : ℕ → ℕ) (len : ℕ) (o : Option ℕ) (t : Stand) → reached_at b len o ≡ Some t → ReachedTold b len o t
+reached_at-to b len None t e = let z : ◌≡◌ {A = ℕ} 0 1 = cc in absurd (omega arith)
+reached_at-to b len (Some k) t e =
     let same : stand_at b len k ≡ t = cc in
     rw (← same) (record { node = refl; knows = refl })
 
-pub reached_at-lost : (b : ℕ → ℕ) (len : ℕ) (o : Option ℕ) → reached_at b len o ≡ NoPath → o ≡ none
-reached_at-lost b len none e = refl
-reached_at-lost b len (some k) e = let z : ◌≡◌ {A = ℕ} 0 1 = cc in absurd (omega arith)
+pub reached_at-lost : (b : ℕ → ℕ) (len : ℕ) (o : Option ℕ) → reached_at b len o ≡ None → o ≡ None
+reached_at-lost b len None e = refl
+reached_at-lost b len (Some k) e = let z : ◌≡◌ {A = ℕ} 0 1 = cc in absurd (omega arith)
 
-pub child_of-node : (o : Option ℕ) (m : ℕ) → child_of o ≡ Node m → o ≡ some m
-child_of-node none m e = let z : ◌≡◌ {A = ℕ} 0 1 = cc in absurd (omega arith)
-child_of-node (some k) m e = let z : k ≡ m = cc in ap some z
+pub child_of-node : (o : Option ℕ) (m : ℕ) → o ≡ Some m → o ≡ Some m
+child_of-node None m e = let z : ◌≡◌ {A = ℕ} 0 1 = cc in absurd (omega arith)
+child_of-node (Some k) m e = let z : k ≡ m = cc in ap Some z
 
-pub child_of-absent : (o : Option ℕ) → child_of o ≡ Absent → o ≡ none
-child_of-absent none e = refl
-child_of-absent (some k) e = let z : ◌≡◌ {A = ℕ} 0 1 = cc in absurd (omega arith)
+pub child_of-absent : (o : Option ℕ) → o ≡ None → o ≡ None
+child_of-absent None e = refl
+child_of-absent (Some k) e = let z : ◌≡◌ {A = ℕ} 0 1 = cc in absurd (omega arith)
 
 module _ (ls : List ℕ) (b : ℕ → ℕ) (len : ℕ) (s : Stand) (a : ℕ) where
-  pub down_from-there : (m : ℕ) → lowest_by ls s.node (kids_from b len s).count (kids_from b len s).first a ≡ some m
-      → down_from ls b len s a ≡ To (kid_from b len s.node (kids_from b len s).next m)
+  pub down_from-there : (m : ℕ) → lowest_by ls s.node (kids_from b len s).count (kids_from b len s).first a ≡ Some m
+      → down_from ls b len s a ≡ Some (kid_from b len s.node (kids_from b len s).next m)
   unfolding down_from
   down_from-there m e = ap (to_kid b len s.node (kids_from b len s).next) e
 
-  pub down_from-absent : lowest_by ls s.node (kids_from b len s).count (kids_from b len s).first a ≡ none → down_from ls b len s a ≡ NoPath
+  pub down_from-absent : lowest_by ls s.node (kids_from b len s).count (kids_from b len s).first a ≡ None → down_from ls b len s a ≡ None
   unfolding down_from
   down_from-absent e = ap (to_kid b len s.node (kids_from b len s).next) e
 
-pub held_of-value : (o : Option ℕ) (v : ℕ) → held_of o ≡ Value v → o ≡ some v
-held_of-value none v e = let z : ◌≡◌ {A = ℕ} 0 1 = cc in absurd (omega arith)
-held_of-value (some k) v e = let z : k ≡ v = cc in ap some z
+pub held_of-value : (o : Option ℕ) (v : ℕ) → o ≡ Some v → o ≡ Some v
+held_of-value None v e = let z : ◌≡◌ {A = ℕ} 0 1 = cc in absurd (omega arith)
+held_of-value (Some k) v e = let z : k ≡ v = cc in ap Some z
 
-pub held_of-none : (o : Option ℕ) → held_of o ≡ NoValue → o ≡ none
-held_of-none none e = refl
-held_of-none (some k) e = let z : ◌≡◌ {A = ℕ} 0 1 = cc in absurd (omega arith)
+pub held_of-none : (o : Option ℕ) → o ≡ None → o ≡ None
+held_of-none None e = refl
+held_of-none (Some k) e = let z : ◌≡◌ {A = ℕ} 0 1 = cc in absurd (omega arith)

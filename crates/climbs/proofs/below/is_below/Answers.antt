@@ -7,7 +7,7 @@ use Rattle.climbs.specs.Perches.{perch_at}
 use Rattle.climbs.specs.Below.{below_by}
 use Rattle.climbs.proofs.Laws.Perches.{RiseTold, rise-to, rise-lost}
 use Rattle.climbs.proofs.Laws.Below.{below_by-here, below_by-lost, below_by-up}
-use Rattle.climbs.proofs.below.is_below.Goals.{In-Parent}
+use Rattle.climbs.proofs.below.is_below.Goals.{In-Some}
 use Rattle.climbs.proofs.below.is_below.Goals as goal
 
 pub loop-at-init : goal.loop-at-init
@@ -27,14 +27,14 @@ returns-in_default c =
     sym (l.invariant.1 ∙ below_by-lost b a.len a.top l.at.node (omega arith) top)
 
 -- where the step led
-there : (c : In-Parent)
+there : (c : In-Some)
     →
     let a = c.args in
-    RiseTold (bit a.words.now) a.len c.loop-at.at.node c.in-Parent.up
+    RiseTold (bit a.words.now) a.len c.loop-at.at.node c.in-Some.up
 there c =
     let a = c.args in
     let l = c.loop-at in
-    rise-to (bit a.words.now) (bit-small a.words.now) a.len l.at l.invariant.0 _ c.parent_of.ensures _ c.in-Parent.is
+    rise-to (bit a.words.now) (bit-small a.words.now) a.len l.at l.invariant.0 _ c.parent_of.ensures _ c.in-Some.is
 
 pub loop-at-smaller : goal.loop-at-smaller
 loop-at-smaller c = (there c).lower

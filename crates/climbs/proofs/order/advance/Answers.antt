@@ -4,13 +4,13 @@ use Rattle.keymap.specs.Bits.{bit}
 use Rattle.climbs.specs.Moves.{or_moved, climb_from}
 use Rattle.climbs.proofs.order.advance.Goals as goal
 
-pub returns-in-To : goal.returns-in-To
-returns-in-To c =
+pub returns-in-Some : goal.returns-in-Some
+returns-in-Some c =
     let a = c.args in
-    ap (λ r. or_moved r (climb_from (bit a.words.now) a.len a.last a.top a.at)) (sym c.in-To.is ∙ c.first_child.ensures)
+    ap (λ r. or_moved r (climb_from (bit a.words.now) a.len a.last a.top a.at)) (sym c.in-Some.is ∙ c.first_child.ensures)
 
-pub returns-in-Nowhere : goal.returns-in-Nowhere
-returns-in-Nowhere c =
+pub returns-in-None : goal.returns-in-None
+returns-in-None c =
     let a = c.args in
     c.climb.ensures
-    ∙ ap (λ r. or_moved r (climb_from (bit a.words.now) a.len a.last a.top a.at)) (sym c.in-Nowhere.is ∙ c.first_child.ensures)
+    ∙ ap (λ r. or_moved r (climb_from (bit a.words.now) a.len a.last a.top a.at)) (sym c.in-None.is ∙ c.first_child.ensures)

@@ -7,11 +7,11 @@ use Rattle.climbs.proofs.order.climb.Goals as goal
 pub loop-at-init : goal.loop-at-init
 loop-at-init c = refl
 
-pub returns-in-To : goal.returns-in-To
-returns-in-To c =
+pub returns-in-Some : goal.returns-in-Some
+returns-in-Some c =
     let a = c.args in
     let l = c.loop-at in
-    sym (l.invariant ∙ climb_from-beside (bit a.words.now) a.len a.last a.top l.at (omega arith) _ (sym c.beside.ensures ∙ c.in-To.is))
+    sym (l.invariant ∙ climb_from-beside (bit a.words.now) a.len a.last a.top l.at (omega arith) _ (sym c.beside.ensures ∙ c.in-Some.is))
 
 pub returns-in_default : goal.returns-in_default
 returns-in_default c =
@@ -19,22 +19,22 @@ returns-in_default c =
     let l = c.loop-at in
     sym
     (l.invariant
-    ∙ climb_from-lost (bit a.words.now) a.len a.last a.top l.at (omega arith) (sym c.beside.ensures ∙ c.in-Nowhere.is)
+    ∙ climb_from-lost (bit a.words.now) a.len a.last a.top l.at (omega arith) (sym c.beside.ensures ∙ c.in-None.is)
     (sym c.parent_of.ensures ∙ c.in_default.is))
 
 pub loop-at-smaller : goal.loop-at-smaller
 loop-at-smaller c =
     let a = c.args in
     let l = c.loop-at in
-    rise-lower (bit a.words.now) a.len l.at _ (sym c.parent_of.ensures ∙ c.in-Parent.is)
+    rise-lower (bit a.words.now) a.len l.at _ (sym c.parent_of.ensures ∙ c.in-Some.is)
 
 pub loop-at-preserved : goal.loop-at-preserved
 loop-at-preserved c =
     let a = c.args in
     let l = c.loop-at in
     l.invariant
-    ∙ climb_from-up (bit a.words.now) a.len a.last a.top l.at (omega arith) (sym c.beside.ensures ∙ c.in-Nowhere.is) _
-    (sym c.parent_of.ensures ∙ c.in-Parent.is)
+    ∙ climb_from-up (bit a.words.now) a.len a.last a.top l.at (omega arith) (sym c.beside.ensures ∙ c.in-None.is) _
+    (sym c.parent_of.ensures ∙ c.in-Some.is)
 
 pub returns : goal.returns
 returns c =

@@ -1,10 +1,10 @@
 -- `climbs::order::first_child` meets its contract: past each test the numbers stand, and the child is the definition's. Assumes nothing.
+use Rattle.std.specs.Prelude.{Some}
 use mathlib.Core.Path.{◌≡◌, sym, ◌∙◌}
 use Prim.Native.Nat.{◌+◌, ◌-◌}
 use native.Mathlib.Omega.{arith}
 use mathlib.Core.Bool.{true}
 use Rattle.keymap.specs.Bits.{bit}
-use Rattle.louds.specs.declared.answers.Spot.TheVariants.{At}
 use Rattle.louds.specs.Select.{zero_from}
 use Rattle.climbs.specs.Order.{one_behind}
 use Rattle.climbs.specs.Moves.{leads}
@@ -43,8 +43,8 @@ returns-in_default c =
 -- the node's zero
 zero_is : (c : After-one_behind)
     → let a = c.args in
-    zero_from (bit a.words.now) a.len a.at.one (a.at.node - (a.at.one + 1 - a.at.node)) ≡ At c.in-At.zero
-zero_is c = sym c.zero_from.ensures ∙ c.in-At.is
+    zero_from (bit a.words.now) a.len a.at.one (a.at.node - (a.at.one + 1 - a.at.node)) ≡ Some c.in-Some.zero
+zero_is c = sym c.zero_from.ensures ∙ c.in-Some.is
 
 pub returns-then-not-one_behind : goal.returns-then-not-one_behind
 returns-then-not-one_behind c =
@@ -56,7 +56,7 @@ returns-then-not-one_behind c =
 -- past the second
 behind : (c : Else-not-one_behind)
     → let a = c.args in
-    one_behind (bit a.words.now) a.len c.in-At.zero ≡ true
+    one_behind (bit a.words.now) a.len c.in-Some.zero ≡ true
 behind c = sym c.one_behind.ensures ∙ c.if-not-one_behind.false
 
 pub overflow_add-child : goal.overflow_add-child

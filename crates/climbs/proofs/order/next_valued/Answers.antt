@@ -4,13 +4,12 @@ use native.Mathlib.Omega.{arith}
 use lib.ListN.{length}
 use Rattle.keymap.specs.Bits.{bit}
 use Rattle.keymap.proofs.Laws.Bits.{bit-small}
-use Rattle.walks.proofs.Laws.Stands.{held_of-value, held_of-none}
 use Rattle.climbs.specs.declared.perches.Perch.{Perch}
 use Rattle.climbs.specs.Perches.{perch_at}
 use Rattle.climbs.specs.Order.{advance_by, sought_from, given_of}
 use Rattle.climbs.proofs.Laws.Order.{next-starts, sought-done, sought-lost, sought-value, sought-on}
 use Rattle.climbs.proofs.Laws.Moves.{MovedTold, moved_to, moved-lost}
-use Rattle.climbs.proofs.order.next_valued.Goals.{In-To}
+use Rattle.climbs.proofs.order.next_valued.Goals.{In-Some}
 use Rattle.climbs.proofs.order.next_valued.Goals as goal
 
 pub loop-left-init : goal.loop-left-init
@@ -37,25 +36,25 @@ returns-in_default c =
     ∙ sought-lost a.labels.now a.values.now b a.len a.top l.left))
 
 -- where the step led
-there : (c : In-To)
+there : (c : In-Some)
     →
     let a = c.args in
-    MovedTold (bit a.words.now) a.len (advance_by (bit a.words.now) a.len (length a.labels.now + 1) a.top c.loop-left.at.node) c.in-To.next
+    MovedTold (bit a.words.now) a.len (advance_by (bit a.words.now) a.len (length a.labels.now + 1) a.top c.loop-left.at.node) c.in-Some.next
 there c =
     let a = c.args in
     let l = c.loop-left in
-    moved_to (bit a.words.now) (bit-small a.words.now) a.len (length a.labels.now + 1) a.top l.at l.invariant.0 _ c.advance.ensures _ c.in-To.is
+    moved_to (bit a.words.now) (bit-small a.words.now) a.len (length a.labels.now + 1) a.top l.at l.invariant.0 _ c.advance.ensures _ c.in-Some.is
 
-pub returns-in-Value : goal.returns-in-Value
-returns-in-Value c =
+pub returns-in-Some : goal.returns-in-Some
+returns-in-Some c =
     let a = c.args in
     let l = c.loop-left in
     let b = bit a.words.now in
-    let value = held_of-value _ _ (sym c.value_at.ensures ∙ c.in-Value.is) in
+    let value = (sym c.value_at.ensures ∙ c.in-Some.is) in
     sym
     (ap given_of
     (l.invariant.1
-    ∙ ap (sought_from a.labels.now a.values.now b a.len a.top l.left) (there (goal.at.returns-in-Value c).In-To).node
+    ∙ ap (sought_from a.labels.now a.values.now b a.len a.top l.left) (there (goal.at.returns-in-Some c).In-Some).node
     ∙ sought-value a.labels.now a.values.now b a.len a.top l.left _ _ (omega arith) value))
 
 pub loop-left-preserved : goal.loop-left-preserved
@@ -63,10 +62,10 @@ loop-left-preserved c =
     let a = c.args in
     let l = c.loop-left in
     let b = bit a.words.now in
-    let valueless = held_of-none _ (sym c.value_at.ensures ∙ c.in-NoValue.is) in (
-      (there (goal.at.loop-left-preserved c).In-To).knows,
+    let valueless = (sym c.value_at.ensures ∙ c.in-None.is) in (
+      (there (goal.at.loop-left-preserved c).In-Some).knows,
       l.invariant.1
-          ∙ ap (sought_from a.labels.now a.values.now b a.len a.top l.left) (there (goal.at.loop-left-preserved c).In-To).node
+          ∙ ap (sought_from a.labels.now a.values.now b a.len a.top l.left) (there (goal.at.loop-left-preserved c).In-Some).node
           ∙ sought-on a.labels.now a.values.now b a.len a.top l.left _ (omega arith) valueless,
     )
 

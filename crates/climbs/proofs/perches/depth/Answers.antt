@@ -5,7 +5,7 @@ use Rattle.keymap.proofs.Laws.Bits.{bit-small}
 use Rattle.climbs.specs.declared.perches.Perch.{Perch}
 use Rattle.climbs.specs.Perches.{depth_by, perch_at}
 use Rattle.climbs.proofs.Laws.Perches.{depth-root, depth-next, RiseTold, rise-to, rise-lost}
-use Rattle.climbs.proofs.perches.depth.Goals.{In-Parent}
+use Rattle.climbs.proofs.perches.depth.Goals.{In-Some}
 use Rattle.climbs.proofs.perches.depth.Goals as goal
 
 pub loop-up-init : goal.loop-up-init
@@ -25,14 +25,14 @@ returns-in_default c =
     omega (arith, l.invariant.2, depth-root b a.len l.at.node top)
 
 -- where the step led
-there : (c : In-Parent)
+there : (c : In-Some)
     → RiseTold (bit c.args.words.now) c.args.len
     c.loop-up.at.node
-    c.in-Parent.up
+    c.in-Some.up
 there c =
     let a = c.args in
     let l = c.loop-up in
-    rise-to (bit a.words.now) (bit-small a.words.now) a.len l.at l.invariant.0 _ c.parent_of.ensures _ c.in-Parent.is
+    rise-to (bit a.words.now) (bit-small a.words.now) a.len l.at l.invariant.0 _ c.parent_of.ensures _ c.in-Some.is
 
 pub overflow_add-count : goal.overflow_add-count
 overflow_add-count c = omega (arith, c.loop-up.invariant.1, (there c).lower)

@@ -1,11 +1,10 @@
 -- `climbs::perches::parent_of` meets its contract: past the test the subtractions stand, and the parent's one is the definition's. Assumes nothing.
+use Rattle.std.specs.Prelude.{Some, unwrap_or, Option}
 use mathlib.Core.Path.{◌≡◌, sym, ap, ◌∙◌}
 use Prim.Native.Nat.{◌-◌}
 use native.Mathlib.Omega.{arith}
 use mathlib.Core.Bool.{true}
 use Rattle.keymap.specs.Bits.{bit}
-use Rattle.louds.specs.Nodes.{or_end}
-use Rattle.climbs.specs.declared.perches.Rise.TheVariants.{Parent}
 use Rattle.climbs.specs.Perches.{has_parent}
 use Rattle.climbs.proofs.Laws.Perches.{has_parent-told, parent_from-none, parent_from-some}
 use Rattle.climbs.proofs.perches.parent_of.Goals.{Else-not-has_parent}
@@ -33,5 +32,5 @@ pub returns : goal.returns
 returns c =
     let a = c.args in
     let up = a.at.one - (a.at.node - 1) in
-    let one = c.or_end.ensures ∙ ap (or_end a.at.one) c.one_back-spot.ensures in
-    (λ x. Parent (record { node = up; one = one x })) ∙ sym (parent_from-some (bit a.words.now) a.len a.at (has (goal.at.returns c).Else-not-has_parent))
+    let one = c.or_end.ensures ∙ ap (λ (o : Option ℕ). unwrap_or o a.at.one) c.one_back-spot.ensures in
+    (λ x. Some (record { node = up; one = one x })) ∙ sym (parent_from-some (bit a.words.now) a.len a.at (has (goal.at.returns c).Else-not-has_parent))

@@ -4,7 +4,7 @@ use native.Mathlib.Omega.{arith}
 use Rattle.keymap.specs.Bits.{bit}
 use Rattle.keymap.proofs.Laws.Bits.{bit-small}
 use Rattle.climbs.proofs.Laws.Perches.{UpTold, perch-lost, perch-up}
-use Rattle.climbs.proofs.perches.perch_at.Goals.{In-Node}
+use Rattle.climbs.proofs.perches.perch_at.Goals.{In-Some}
 use Rattle.climbs.proofs.perches.perch_at.Goals as goal
 
 pub returns-in_default : goal.returns-in_default
@@ -13,11 +13,11 @@ returns-in_default c =
     sym (perch-lost (bit a.words.now) (bit-small a.words.now) a.len a.node (sym c.parent.ensures ∙ c.in_default.is))
 
 -- what the answer tells of the node's one
-up-told : (c : In-Node)
+up-told : (c : In-Some)
     → UpTold (bit c.args.words.now) (bit-small c.args.words.now) c.args.len
     c.args.node
-    c.in-Node.up
-up-told c = perch-up _ _ _ _ _ (sym c.parent.ensures ∙ c.in-Node.is)
+    c.in-Some.up
+up-told c = perch-up _ _ _ _ _ (sym c.parent.ensures ∙ c.in-Some.is)
 
 pub overflow_sub-result : goal.overflow_sub-result
 overflow_sub-result c = (up-told c).node

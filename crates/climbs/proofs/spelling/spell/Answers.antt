@@ -1,7 +1,7 @@
 use mathlib.Core.Path.{◌≡◌, refl, sym, ap, ◌∙◌}
 use Prim.Native.Nat.{◌-◌}
 use native.Mathlib.Omega.{arith}
-use mathlib.Core.Option.{some}
+use Rattle.std.specs.Prelude.{Some}
 use mathlib.Core.Bool.{true}
 use lib.ListN.{length, set, length-set}
 use Rattle.keymap.specs.Bits.{bit}
@@ -11,7 +11,7 @@ use Rattle.climbs.specs.Perches.{parent_by, perch_at}
 use Rattle.climbs.specs.Spelling.{has_entry, spelled_from, spelled_by}
 use Rattle.climbs.proofs.Laws.Perches.{RiseTold, rise-to, rise-lost}
 use Rattle.climbs.proofs.Laws.Spelling.{has_entry-told, spelled_from-done, spelled_from-lost, spelled_from-bare, spelled_from-next, spelled_by-short, spelled_by-room}
-use Rattle.climbs.proofs.spelling.spell.Goals.{After-parent_of, Else-not-has_entry, In-Parent}
+use Rattle.climbs.proofs.spelling.spell.Goals.{After-parent_of, Else-not-has_entry, In-Some}
 use Rattle.climbs.proofs.spelling.spell.Goals as goal
 
 pub returns-then-out-count : goal.returns-then-out-count
@@ -29,7 +29,7 @@ loop-left-init c =
       refl,
       omega arith,
       spelled_by-room a.labels.now b a.len a.node a.count a.out.now (omega arith)
-          ∙ ap (λ k. spelled_from a.labels.now b a.len a.count (some k) a.out.now) (sym own),
+          ∙ ap (λ k. spelled_from a.labels.now b a.len a.count (Some k) a.out.now) (sym own),
     )
 
 pub shape_of-out-then-not-has_entry : goal.shape_of-out-then-not-has_entry
@@ -93,14 +93,14 @@ returns-in_default c =
     ∙ spelled_from-lost a.labels.now b a.len (l.left - 1) out)
 
 -- where the step led
-there : (c : In-Parent)
+there : (c : In-Some)
     →
     let a = c.args in
-    RiseTold (bit a.words.now) a.len c.loop-left.at.node c.in-Parent.up
+    RiseTold (bit a.words.now) a.len c.loop-left.at.node c.in-Some.up
 there c =
     let a = c.args in
     let l = c.loop-left in
-    rise-to (bit a.words.now) (bit-small a.words.now) a.len l.at l.invariant.0 _ c.parent_of.ensures _ c.in-Parent.is
+    rise-to (bit a.words.now) (bit-small a.words.now) a.len l.at l.invariant.0 _ c.parent_of.ensures _ c.in-Some.is
 
 pub loop-left-preserved : goal.loop-left-preserved
 loop-left-preserved c =
@@ -124,5 +124,5 @@ returns c =
     let done : l.left ≡ 0 = omega arith in
     sym
     (l.invariant.3
-    ∙ ap (λ n. spelled_from a.labels.now (bit a.words.now) a.len n (some l.at.node) l.out) done
-    ∙ spelled_from-done a.labels.now (bit a.words.now) a.len (some l.at.node) l.out)
+    ∙ ap (λ n. spelled_from a.labels.now (bit a.words.now) a.len n (Some l.at.node) l.out) done
+    ∙ spelled_from-done a.labels.now (bit a.words.now) a.len (Some l.at.node) l.out)

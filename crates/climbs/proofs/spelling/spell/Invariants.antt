@@ -2,7 +2,7 @@
 -- The measure is how many places are left. Assumes nothing.
 use mathlib.Core.Path.{◌≡◌}
 use Prim.Native.Nat.{◌≤◌}
-use mathlib.Core.Option.{some}
+use Rattle.std.specs.Prelude.{Some}
 use lib.ListN.{length}
 use Rattle.keymap.specs.Bits.{bit}
 use Rattle.climbs.specs.Perches.{perch_at}
@@ -14,7 +14,7 @@ invariant-loop-left l =
     (l.at ≡ perch_at (bit l.words) l.len l.at.node)
     × (length l.out ≡ length l.initial.out)
     × (l.left ≤ length l.initial.out)
-    × (spelled_by l.labels (bit l.words) l.len l.node l.count l.initial.out ≡ spelled_from l.labels (bit l.words) l.len l.left (some l.at.node) l.out)
+    × (spelled_by l.labels (bit l.words) l.len l.node l.count l.initial.out ≡ spelled_from l.labels (bit l.words) l.len l.left (Some l.at.node) l.out)
 
 abbrev pub decreases-loop-left : goal.decreases-loop-left
 decreases-loop-left l = l.left

@@ -1,3 +1,4 @@
+use Rattle.std.specs.Prelude.{Option, Some}
 use mathlib.Core.Path.{◌≡◌, refl, sym, ap, ◌∙◌, subst}
 use mathlib.Core.List.{List}
 use Prim.Native.Nat.{ℕ, ◌+◌, ◌-◌, ◌*◌, ◌^◌, ◌≤◌, ◌<◌}
@@ -8,13 +9,10 @@ use lib.Bits.{bit_and}
 use lib.Count.{count_trailing_zeros}
 use Rattle.keymap.specs.Limits.{word_bits}
 use Rattle.keymap.specs.Bits.{bit}
-use Rattle.walks.specs.declared.entries.Child.{Child}
-use Rattle.walks.specs.declared.entries.Child.TheVariants.{Node}
 use Rattle.walks.specs.Rule.{lowest_by, child_by, walked_from}
-use Rattle.walks.specs.Stands.{child_of, reached_at}
+use Rattle.walks.specs.Stands.{reached_at}
 use Rattle.descents.specs.Far.{zero_bits, ZeroWord}
 use Rattle.walks.proofs.Laws.Rule.{walked_from-next, walked_from-lost}
-use Rattle.walks.proofs.Laws.Stands.{child_of-node, child_of-absent}
 use Rattle.walks.proofs.Laws.Siblings.{lowest-bounds}
 use Rattle.descents.proofs.Laws.Far.{Settled, keeping_start, settled-found, settled-kept, settled-keeping, settled_same, keeping-next, keeping-stand, gone-rule, Stood, stood, NextAt, ahead_in, ahead-beyond, child-rule-far, zeros-most}
 use Rattle.descents.proofs.far.go_far.Goals.{After-ones_from-rest, After-row_known-1, In_default, After-row_known-in-loop-i-1, then-zeros-left+else-k-eq0, else-zeros-left, then-more-eq0+else-whole-v, else-more-eq0}
@@ -159,35 +157,34 @@ module _ (o : After-ones_from-rest) (low to : ℕ) where
   abbrev from : ℕ
   from = o.if-zeros-left.w * 64 - o.loop-i.node + low - 63
 
-  abbrev sought : Child
-  sought = child_of (lowest_by o.args.labels.now o.loop-i.node (to - from) (from + 1) (get_or o.args.query.now o.loop-i.i 0))
+  abbrev sought : (Option ℕ)
+  sought = (lowest_by o.args.labels.now o.loop-i.node (to - from) (from + 1) (get_or o.args.query.now o.loop-i.i 0))
 
   -- what a step answers, by the rule
-  step : (r t : Child) → low ≡ count_trailing_zeros word_bits o.ones_from-rest.result → Next o to → r ≡ sought → r ≡ t
-      → child_of (child_by o.args.labels.now (bit o.args.words.now) o.args.len o.loop-i.node (get_or o.args.query.now o.loop-i.i 0)) ≡ t
+  step : (r t : (Option ℕ)) → low ≡ count_trailing_zeros word_bits o.ones_from-rest.result → Next o to → r ≡ sought → r ≡ t
+      → (child_by o.args.labels.now (bit o.args.words.now) o.args.len o.loop-i.node (get_or o.args.query.now o.loop-i.i 0)) ≡ t
   step r t first next is e =
       let a = o.args in
       let l = o.loop-i in
       let z = stands o in
       let s = settled (row o) in
-      ap child_of
       (child-rule-far (ws (row o)) (wide (row o)) (whole (row o)) l.node o.if-zeros-left.w o.if-zeros-left.left o.if-zeros-left.zeros o.if-zeros-left.sums s o.ones_from-rest.result o.ones_from-rest.ensures a.labels.now a.len (get_or a.query.now l.i 0)
       from to l.invariant.2 (omega (arith, s.kept, z.few, z.one, z.upto, z.near, z.lowest, first)) next)
       ∙ sym is
       ∙ e
 
   -- a child is above its node, and has an entry
-  bounds : (r : Child) (m : ℕ) → r ≡ sought → r ≡ Node m → (o.loop-i.node < m) × (m ≤ length o.args.labels.now + 1)
+  bounds : (r : (Option ℕ)) (m : ℕ) → r ≡ sought → r ≡ Some m → (o.loop-i.node < m) × (m ≤ length o.args.labels.now + 1)
   bounds r m is e =
       lowest-bounds o.args.labels.now o.loop-i.node (to - from) (from + 1) (get_or o.args.query.now o.loop-i.i 0) m
-      (child_of-node (lowest_by o.args.labels.now o.loop-i.node (to - from) (from + 1) (get_or o.args.query.now o.loop-i.i 0)) m (sym is ∙ e))
+      ((sym is ∙ e))
 
 pub returns-in_default : goal.returns-in_default
 returns-in_default c =
     let a = c.args in
     let l = c.loop-i in
     let b = bit a.words.now in
-    let lost = child_of-absent (child_by a.labels.now b a.len l.node (get_or a.query.now l.i 0)) (step (goal.at.returns-in_default c).After-ones_from-rest c.lowest_one.result c.if-more-eq0.to _ _ c.lowest_one.ensures (next-lost c) c.child_within.ensures c.in_default.is) in
+    let lost = (step (goal.at.returns-in_default c).After-ones_from-rest c.lowest_one.result c.if-more-eq0.to _ _ c.lowest_one.ensures (next-lost c) c.child_within.ensures c.in_default.is) in
     sym
     (ap (reached_at b a.len)
     (l.invariant.4
@@ -196,11 +193,11 @@ returns-in_default c =
     ∙ walked_from-lost a.labels.now b a.len (drop (l.i + 1) a.query.now)))
 
 pub overflow_sub-left-in-loop-i : goal.overflow_sub-left-in-loop-i
-overflow_sub-left-in-loop-i c = omega (arith, bounds (goal.at.overflow_sub-left-in-loop-i c).After-ones_from-rest c.lowest_one.result c.if-more-eq0.to _ _ c.child_within.ensures c.in-Node.is)
+overflow_sub-left-in-loop-i c = omega (arith, bounds (goal.at.overflow_sub-left-in-loop-i c).After-ones_from-rest c.lowest_one.result c.if-more-eq0.to _ _ c.child_within.ensures c.in-Some.is)
 
 pub overflow_add-left : goal.overflow_add-left
 overflow_add-left c =
-    let d = bounds (goal.at.overflow_add-left c).After-ones_from-rest c.lowest_one.result c.if-more-eq0.to _ _ c.child_within.ensures c.in-Node.is in
+    let d = bounds (goal.at.overflow_add-left c).After-ones_from-rest c.lowest_one.result c.if-more-eq0.to _ _ c.child_within.ensures c.in-Some.is in
     let s = settled (goal.at.overflow_add-left c).After-row_known-1 in
     omega (arith, d, s.enough, s.own.all, zeros-most (ws (goal.at.overflow_add-left c).After-row_known-1) (c.if-zeros-left.w - 1) (wide (goal.at.overflow_add-left c).After-row_known-1), c.well_formed.0.1)
 
@@ -215,12 +212,12 @@ loop-i-preserved c =
     let a = c.args in
     let l = c.loop-i in
     let b = bit a.words.now in
-    let d = bounds (goal.at.loop-i-preserved c).After-ones_from-rest c.lowest_one.result c.if-more-eq0.to _ _ c.child_within.ensures c.in-Node.is in
-    let there = child_of-node (child_by a.labels.now b a.len l.node (get_or a.query.now l.i 0)) _ (step (goal.at.loop-i-preserved c).After-ones_from-rest c.lowest_one.result c.if-more-eq0.to _ _ c.lowest_one.ensures (next-found c) c.child_within.ensures c.in-Node.is) in (
+    let d = bounds (goal.at.loop-i-preserved c).After-ones_from-rest c.lowest_one.result c.if-more-eq0.to _ _ c.child_within.ensures c.in-Some.is in
+    let there = (step (goal.at.loop-i-preserved c).After-ones_from-rest c.lowest_one.result c.if-more-eq0.to _ _ c.lowest_one.ensures (next-found c) c.child_within.ensures c.in-Some.is) in (
       omega (arith, c.loop-i-test.true),
       l.invariant.1,
       l.invariant.2,
-      keeping-next (ws (goal.at.loop-i-preserved c).After-row_known-1) (whole (goal.at.loop-i-preserved c).After-row_known-1) l.node c.if-zeros-left.w c.if-zeros-left.left c.if-zeros-left.zeros c.if-zeros-left.sums c.in-Node.m (settled (goal.at.loop-i-preserved c).After-row_known-1) (omega (arith, d)),
+      keeping-next (ws (goal.at.loop-i-preserved c).After-row_known-1) (whole (goal.at.loop-i-preserved c).After-row_known-1) l.node c.if-zeros-left.w c.if-zeros-left.left c.if-zeros-left.zeros c.if-zeros-left.sums c.in-Some.m (settled (goal.at.loop-i-preserved c).After-row_known-1) (omega (arith, d)),
       l.invariant.4
           ∙ walked_from-next a.labels.now b a.len a.query.now l.i l.node (omega (arith, c.loop-i-test.true))
           ∙ ap (walked_from a.labels.now b a.len (drop (l.i + 1) a.query.now)) there,

@@ -1,7 +1,7 @@
 -- `descents::far::go_far` meets its contract. The invariant: the word kept has the node's zero or stands before it (`Keeping`), and the walk is the walk from the node along what is left.
 -- Assumes nothing.
 use mathlib.Core.Path.{◌≡◌}
-use mathlib.Core.Option.{some}
+use Rattle.std.specs.Prelude.{Some}
 use Prim.Native.Nat.{◌-◌, ◌*◌, ◌≤◌}
 use lib.ListN.{length, drop}
 use Rattle.keymap.specs.Limits.{word_bits}
@@ -16,7 +16,7 @@ invariant-loop-i l =
     × (l.whole ≤ length l.words)
     × (l.whole * word_bits ≤ l.len)
     × Keeping l.words l.whole l.node l.w l.left l.zeros l.sums
-    × (walked l.labels (bit l.words) l.len l.query ≡ walked_from l.labels (bit l.words) l.len (drop l.i l.query) (some l.node))
+    × (walked l.labels (bit l.words) l.len l.query ≡ walked_from l.labels (bit l.words) l.len (drop l.i l.query) (Some l.node))
 
 abbrev pub decreases-loop-i : goal.decreases-loop-i
 decreases-loop-i l = length l.query - l.i

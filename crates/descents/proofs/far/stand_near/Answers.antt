@@ -1,11 +1,11 @@
 -- `descents::far::stand_near` meets its contract: a word behind the end has no zero, and else it begins inside. Assumes nothing.
+use Rattle.std.specs.Prelude.{unwrap_or, Option}
 use mathlib.Core.Path.{◌≡◌, sym, ap, ◌∙◌}
 use Prim.Native.Nat.{ℕ, ◌-◌, ◌*◌}
 use native.Mathlib.Omega.{arith}
 use Rattle.keymap.specs.Limits.{word_bits}
 use Rattle.keymap.specs.Bits.{bit}
 use Rattle.louds.specs.Select.{zero_from}
-use Rattle.louds.specs.Nodes.{or_end}
 use Rattle.descents.proofs.Laws.Far.{near-beyond}
 use Rattle.descents.proofs.far.stand_near.Goals as goal
 
@@ -25,6 +25,6 @@ returns c =
     let a = c.args in
     let b = bit a.words.now in
     let from : (c.larger-last.result - 1) * word_bits ≡ (a.kept - 1) * word_bits = omega (arith, c.larger-last.ensures) in
-    let zero : c.or_end.result ≡ or_end a.len (zero_from b a.len ((a.kept - 1) * word_bits) a.left) =
-    c.or_end.ensures ∙ ap (or_end a.len) (c.zero_from-spot.ensures ∙ ap (λ (x : ℕ). zero_from b a.len x a.left) from) in
+    let zero : c.or_end.result ≡ unwrap_or (zero_from b a.len ((a.kept - 1) * word_bits) a.left) a.len =
+    c.or_end.ensures ∙ ap (λ (o : Option ℕ). unwrap_or o a.len) (c.zero_from-spot.ensures ∙ ap (λ (x : ℕ). zero_from b a.len x a.left) from) in
     λ x. record { node = a.node; zero = zero x }

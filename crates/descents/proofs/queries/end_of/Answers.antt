@@ -3,7 +3,7 @@ use mathlib.Core.Path.{◌≡◌, sym, ap, ◌∙◌}
 use Rattle.keymap.specs.Bits.{bit}
 use Rattle.descents.specs.declared.queries.Ended.{Ended}
 use Rattle.walks.specs.Rule.{walked}
-use Rattle.walks.specs.Stands.{child_of, reached_at}
+use Rattle.walks.specs.Stands.{reached_at}
 use Rattle.descents.specs.Far.{stand_near, ended_at}
 use Rattle.walks.proofs.Laws.Stands.{reached_at-to, reached_at-lost}
 use Rattle.descents.proofs.queries.end_of.Goals.{After-reach_end}
@@ -20,16 +20,16 @@ returns-in-Near c =
     let a = c.args in
     let b = bit a.words.now in
     let near = stand_near b a.len c.in-Near.node c.in-Near.kept c.in-Near.left in
-    sym (ap child_of (reached_at-to b a.len (walked a.labels.now b a.len a.query.now) near (told (goal.at.returns-in-Near c).After-reach_end _ c.in-Near.is)).node)
+    sym ((reached_at-to b a.len (walked a.labels.now b a.len a.query.now) near (told (goal.at.returns-in-Near c).After-reach_end _ c.in-Near.is)).node)
 
-pub returns-in-At : goal.returns-in-At
-returns-in-At c =
+pub returns-in-Some : goal.returns-in-Some
+returns-in-Some c =
     let a = c.args in
     let b = bit a.words.now in
-    sym (ap child_of (reached_at-to b a.len (walked a.labels.now b a.len a.query.now) c.in-At.s (told (goal.at.returns-in-At c).After-reach_end _ c.in-At.is)).node)
+    sym ((reached_at-to b a.len (walked a.labels.now b a.len a.query.now) c.in-Some.s (told (goal.at.returns-in-Some c).After-reach_end _ c.in-Some.is)).node)
 
-pub returns-in-Nowhere : goal.returns-in-Nowhere
-returns-in-Nowhere c =
+pub returns-in-None : goal.returns-in-None
+returns-in-None c =
     let a = c.args in
     let b = bit a.words.now in
-    sym (ap child_of (reached_at-lost b a.len (walked a.labels.now b a.len a.query.now) (told (goal.at.returns-in-Nowhere c).After-reach_end _ c.in-Nowhere.is)))
+    sym ((reached_at-lost b a.len (walked a.labels.now b a.len a.query.now) (told (goal.at.returns-in-None c).After-reach_end _ c.in-None.is)))

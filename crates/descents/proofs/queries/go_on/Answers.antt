@@ -1,11 +1,10 @@
+use Rattle.std.specs.Prelude.{Option, Some}
 use mathlib.Core.Path.{◌≡◌, sym, ap, ◌∙◌}
 use Prim.Native.Nat.{◌+◌}
 use native.Mathlib.Omega.{arith}
 use lib.ListN.{drop}
 use Rattle.keymap.specs.Bits.{bit}
 use Rattle.walks.specs.declared.stands.Stand.{Stand}
-use Rattle.walks.specs.declared.moves.Reached.{Reached}
-use Rattle.walks.specs.declared.moves.Reached.TheVariants.{To}
 use Rattle.walks.specs.Stands.{down_along}
 use Rattle.walks.proofs.Laws.Stands.{down_along-next, down_along-over, down_along-lost}
 use Rattle.descents.proofs.queries.go_on.Goals.{After-down}
@@ -14,13 +13,13 @@ use Rattle.descents.proofs.queries.go_on.Goals as goal
 pub loop-j-init : goal.loop-j-init
 loop-j-init c =
     let a = c.args in
-    ap (λ (s : Stand). down_along a.labels.now (bit a.words.now) a.len (drop a.steps a.query.now) (To s)) (sym c.stand_near-s.ensures)
+    ap (λ (s : Stand). down_along a.labels.now (bit a.words.now) a.len (drop a.steps a.query.now) (Some s)) (sym c.stand_near-s.ensures)
 
 -- a step down, and what is left from there
-next : (c : After-down) (t : Reached) → c.down.result ≡ t
+next : (c : After-down) (t : (Option Stand)) → c.down.result ≡ t
     → let a = c.args in
     let l = c.loop-j in
-    down_along a.labels.now (bit a.words.now) a.len (drop l.j a.query.now) (To l.s)
+    down_along a.labels.now (bit a.words.now) a.len (drop l.j a.query.now) (Some l.s)
     ≡ down_along a.labels.now (bit a.words.now) a.len (drop (l.j + 1) a.query.now) t
 next c t e =
     let a = c.args in
@@ -36,10 +35,10 @@ returns-in_default c =
     sym (l.invariant ∙ next (goal.at.returns-in_default c).After-down _ c.in_default.is ∙ down_along-lost a.labels.now (bit a.words.now) a.len (drop (l.j + 1) a.query.now))
 
 pub loop-j-preserved : goal.loop-j-preserved
-loop-j-preserved c = c.loop-j.invariant ∙ next (goal.at.loop-j-preserved c).After-down _ c.in-To.is
+loop-j-preserved c = c.loop-j.invariant ∙ next (goal.at.loop-j-preserved c).After-down _ c.in-Some.is
 
 pub returns : goal.returns
 returns c =
     let a = c.args in
     let l = c.loop-j in
-    sym (l.invariant ∙ down_along-over a.labels.now (bit a.words.now) a.len a.query.now l.j (To l.s) (omega arith))
+    sym (l.invariant ∙ down_along-over a.labels.now (bit a.words.now) a.len a.query.now l.j (Some l.s) (omega arith))

@@ -1,17 +1,17 @@
 -- `descents::queries::go_on` meets its contract. The invariant: what is left of the query, from the stand, ends where the whole of it does. Assumes nothing.
+use Rattle.std.specs.Prelude.{Some}
 use mathlib.Core.Path.{◌≡◌}
 use Prim.Native.Nat.{◌-◌}
 use lib.ListN.{length, drop}
 use Rattle.keymap.specs.Bits.{bit}
-use Rattle.walks.specs.declared.moves.Reached.TheVariants.{To}
 use Rattle.walks.specs.Stands.{down_along}
 use Rattle.descents.specs.Far.{stand_near}
 use Rattle.descents.proofs.queries.go_on.Given as goal
 
 abbrev pub invariant-loop-j : goal.invariant-loop-j
 invariant-loop-j l =
-    down_along l.labels (bit l.words) l.len (drop l.steps l.query) (To (stand_near (bit l.words) l.len l.node l.kept l.left))
-    ≡ down_along l.labels (bit l.words) l.len (drop l.j l.query) (To l.s)
+    down_along l.labels (bit l.words) l.len (drop l.steps l.query) (Some (stand_near (bit l.words) l.len l.node l.kept l.left))
+    ≡ down_along l.labels (bit l.words) l.len (drop l.j l.query) (Some l.s)
 
 abbrev pub decreases-loop-j : goal.decreases-loop-j
 decreases-loop-j l = length l.query - l.j

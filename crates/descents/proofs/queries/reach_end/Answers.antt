@@ -1,9 +1,9 @@
 -- `descents::queries::reach_end` meets its contract: as far as whole words go, and on from there. Assumes nothing.
+use Rattle.std.specs.Prelude.{Some}
 use mathlib.Core.Path.{◌≡◌, sym, ap, ◌∙◌}
 use native.Mathlib.Omega.{arith}
 use Rattle.keymap.specs.Bits.{bit}
 use Rattle.descents.specs.declared.far.Went.{Went}
-use Rattle.walks.specs.declared.moves.Reached.TheVariants.{To}
 use Rattle.walks.specs.Rule.{walked}
 use Rattle.walks.specs.Stands.{reached_at}
 use Rattle.descents.specs.Far.{stand_near, went_on}
@@ -27,10 +27,10 @@ returns-then-query-steps c =
     let a = c.args in
     let b = bit a.words.now in
     let near = stand_near b a.len c.in-Gone.node c.in-Gone.kept c.in-Gone.left in
-    sym (down_along-over a.labels.now b a.len a.query.now c.in-Gone.steps (To near) (omega arith)) ∙ went (goal.at.returns-then-query-steps c).After-go_far _ c.in-Gone.is
+    sym (down_along-over a.labels.now b a.len a.query.now c.in-Gone.steps (Some near) (omega arith)) ∙ went (goal.at.returns-then-query-steps c).After-go_far _ c.in-Gone.is
 
-pub returns-in-To : goal.returns-in-To
-returns-in-To c = sym c.in-To.is ∙ c.go_on.ensures ∙ went (goal.at.returns-in-To c).After-go_far _ c.in-Gone.is
+pub returns-in-Some : goal.returns-in-Some
+returns-in-Some c = sym c.in-Some.is ∙ c.go_on.ensures ∙ went (goal.at.returns-in-Some c).After-go_far _ c.in-Gone.is
 
-pub returns-in-NoPath : goal.returns-in-NoPath
-returns-in-NoPath c = sym c.in-NoPath.is ∙ c.go_on.ensures ∙ went (goal.at.returns-in-NoPath c).After-go_far _ c.in-Gone.is
+pub returns-in-None : goal.returns-in-None
+returns-in-None c = sym c.in-None.is ∙ c.go_on.ensures ∙ went (goal.at.returns-in-None c).After-go_far _ c.in-Gone.is

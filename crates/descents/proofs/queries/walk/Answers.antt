@@ -1,10 +1,10 @@
 -- `descents::queries::walk` meets its contract: the stand where the walk ended, looked for if whole words left it open. Assumes nothing.
+use Rattle.std.specs.Prelude.{Some}
 use mathlib.Core.Path.{◌≡◌, sym, ap, ◌∙◌}
 use native.Mathlib.Omega.{arith}
 use lib.ListN.{length}
 use Rattle.keymap.specs.Bits.{bit}
 use Rattle.descents.specs.declared.queries.Ended.{Ended}
-use Rattle.walks.specs.declared.moves.Reached.TheVariants.{To}
 use Rattle.walks.specs.Rule.{walked}
 use Rattle.walks.specs.Stands.{reached_at}
 use Rattle.descents.specs.Far.{stand_near, ended_at}
@@ -24,11 +24,11 @@ returns-in-Near c =
     let b = bit a.words.now in
     let near = stand_near b a.len c.in-Near.node c.in-Near.kept c.in-Near.left in
     c.go_on.ensures
-    ∙ down_along-over a.labels.now b a.len a.query.now (length a.query.now) (To near) (omega arith)
+    ∙ down_along-over a.labels.now b a.len a.query.now (length a.query.now) (Some near) (omega arith)
     ∙ sym (told (goal.at.returns-in-Near c).After-reach_end _ c.in-Near.is)
 
-pub returns-in-At : goal.returns-in-At
-returns-in-At c = sym (told (goal.at.returns-in-At c).After-reach_end _ c.in-At.is)
+pub returns-in-Some : goal.returns-in-Some
+returns-in-Some c = sym (told (goal.at.returns-in-Some c).After-reach_end _ c.in-Some.is)
 
-pub returns-in-Nowhere : goal.returns-in-Nowhere
-returns-in-Nowhere c = sym (told (goal.at.returns-in-Nowhere c).After-reach_end _ c.in-Nowhere.is)
+pub returns-in-None : goal.returns-in-None
+returns-in-None c = sym (told (goal.at.returns-in-None c).After-reach_end _ c.in-None.is)

@@ -2,19 +2,18 @@
 use mathlib.Core.Path.{sym, ap, ◌∙◌}
 use Rattle.keymap.specs.Bits.{bit}
 use Rattle.walks.specs.Rule.{value_of_node}
-use Rattle.walks.proofs.Laws.Stands.{held_of-value, held_of-none}
 use Rattle.climbs.specs.Order.{given_of}
 use Rattle.listings.proofs.Laws.Numbers.{first_given_by-held, first_given_by-bare}
 use Rattle.listings.proofs.cursors.first_given.Goals as goal
 
-pub returns-in-Value : goal.returns-in-Value
-returns-in-Value c =
+pub returns-in-Some : goal.returns-in-Some
+returns-in-Some c =
     let a = c.args in
-    let own = held_of-value (value_of_node c.args.labels.now c.args.values.now c.args.top) _ (sym c.value_at.ensures ∙ c.in-Value.is) in
+    let own = (sym c.value_at.ensures ∙ c.in-Some.is) in
     sym (ap given_of (first_given_by-held a.labels.now a.values.now (bit a.words.now) a.len a.top _ own))
 
-pub returns-in-NoValue : goal.returns-in-NoValue
-returns-in-NoValue c =
+pub returns-in-None : goal.returns-in-None
+returns-in-None c =
     let a = c.args in
-    let bare = held_of-none (value_of_node c.args.labels.now c.args.values.now c.args.top) (sym c.value_at.ensures ∙ c.in-NoValue.is) in
+    let bare = (sym c.value_at.ensures ∙ c.in-None.is) in
     c.next_valued.ensures ∙ sym (ap given_of (first_given_by-bare a.labels.now a.values.now (bit a.words.now) a.len a.top bare))

@@ -4,7 +4,6 @@ use mathlib.Core.Path.{sym, ap, ◌∙◌}
 use mathlib.Core.Bool.{Bool}
 use Rattle.keymap.specs.Bits.{bit}
 use Rattle.walks.specs.Rule.{value_of_node}
-use Rattle.walks.proofs.Laws.Stands.{held_of-value, held_of-none}
 use Rattle.listings.specs.declared.answers.Kind.{Kind}
 use Rattle.listings.specs.Numbers.{in_set_by}
 use Rattle.listings.proofs.Laws.Numbers.{in_set_by-unvalued, in_set_by-predictive, in_set_by-own, in_set_by-postfix}
@@ -20,12 +19,12 @@ returns-in_default c =
     let a = c.args in
     sym
     (in_set_by-unvalued a.labels.now a.values.now (bit a.words.now) a.len a.top a.node a.kind
-    (held_of-none (value_of_node c.args.labels.now c.args.values.now c.args.node) (sym c.value_at.ensures ∙ c.in_default.is)))
+    ((sym c.value_at.ensures ∙ c.in_default.is)))
 
 pub returns-then-node-top : goal.returns-then-node-top
 returns-then-node-top c =
     let a = c.args in
-    let own = held_of-value (value_of_node c.args.labels.now c.args.values.now c.args.node) _ (sym c.value_at.ensures ∙ c.in-Value.is) in
+    let own = (sym c.value_at.ensures ∙ c.in-Some.is) in
     sym
     (ap (in_set (goal.at.returns-then-node-top c).Start) c.in-Postfix.is
     ∙ in_set_by-own a.labels.now a.values.now (bit a.words.now) a.len a.top a.node _ own c.if-node-top.true)
@@ -33,7 +32,7 @@ returns-then-node-top c =
 pub returns-in-Predictive : goal.returns-in-Predictive
 returns-in-Predictive c =
     let a = c.args in
-    let own = held_of-value (value_of_node c.args.labels.now c.args.values.now c.args.node) _ (sym c.value_at.ensures ∙ c.in-Value.is) in
+    let own = (sym c.value_at.ensures ∙ c.in-Some.is) in
     c.is_below.ensures
     ∙ sym
     (ap (in_set (goal.at.returns-in-Predictive c).Start) c.in-Predictive.is
@@ -42,7 +41,7 @@ returns-in-Predictive c =
 pub returns-else-node-top : goal.returns-else-node-top
 returns-else-node-top c =
     let a = c.args in
-    let own = held_of-value (value_of_node c.args.labels.now c.args.values.now c.args.node) _ (sym c.value_at.ensures ∙ c.in-Value.is) in
+    let own = (sym c.value_at.ensures ∙ c.in-Some.is) in
     c.is_below-in-Postfix.ensures
     ∙ sym
     (ap (in_set (goal.at.returns-else-node-top c).Start) c.in-Postfix.is

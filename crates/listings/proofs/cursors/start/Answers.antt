@@ -12,7 +12,7 @@ use Rattle.listings.specs.declared.answers.Cursor.{Cursor}
 use Rattle.listings.specs.declared.answers.Cursor.TheVariants.{Open, Finished}
 use Rattle.listings.specs.Numbers.{has_keys_by, start_by}
 use Rattle.listings.proofs.Laws.Numbers.{start_by-lost, start_by-far, start_by-near}
-use Rattle.listings.proofs.cursors.start.Goals.{Else-s-gt-MOST_NUMBER, In-To, Start}
+use Rattle.listings.proofs.cursors.start.Goals.{Else-s-gt-MOST_NUMBER, In-Some, Start}
 use Rattle.listings.proofs.cursors.start.Goals as goal
 
 -- the cursor, by whether the set of a node has a key
@@ -26,27 +26,27 @@ returns-in_default c =
     c.finished.ensures ∙ sym (start_by-lost a.labels.now (bit a.words.now) a.len a.kind a.query.now lost)
 
 -- where the walk ended
-there : (c : In-To)
-    → ReachedTold (bit c.args.words.now) c.args.len (walked c.args.labels.now (bit c.args.words.now) c.args.len c.args.query.now) c.in-To.s
-there c = reached_at-to _ _ (walked c.args.labels.now (bit c.args.words.now) c.args.len c.args.query.now) _ (sym c.walk.ensures ∙ c.in-To.is)
+there : (c : In-Some)
+    → ReachedTold (bit c.args.words.now) c.args.len (walked c.args.labels.now (bit c.args.words.now) c.args.len c.args.query.now) c.in-Some.s
+there c = reached_at-to _ _ (walked c.args.labels.now (bit c.args.words.now) c.args.len c.args.query.now) _ (sym c.walk.ensures ∙ c.in-Some.is)
 
 pub returns-then-s-gt-MOST_NUMBER : goal.returns-then-s-gt-MOST_NUMBER
 returns-then-s-gt-MOST_NUMBER c =
     let a = c.args in
     c.finished-then-s-gt-MOST_NUMBER.ensures
-    ∙ sym (start_by-far a.labels.now (bit a.words.now) a.len a.kind a.query.now _ (there (goal.at.returns-then-s-gt-MOST_NUMBER c).In-To).node (omega (arith, c.if-s-gt-MOST_NUMBER.true)))
+    ∙ sym (start_by-far a.labels.now (bit a.words.now) a.len a.kind a.query.now _ (there (goal.at.returns-then-s-gt-MOST_NUMBER c).In-Some).node (omega (arith, c.if-s-gt-MOST_NUMBER.true)))
 
 -- past the test of its number, the set of that node tells
 near : (c : Else-s-gt-MOST_NUMBER)
     → let a = c.args in
-    let ended = c.in-To.s in
+    let ended = c.in-Some.s in
     start_by a.labels.now (bit a.words.now) a.len a.kind a.query.now
     ≡ start_at (goal.at.has_keys-requires c).Start ended.node (has_keys_by a.labels.now (bit a.words.now) a.len a.kind ended)
 near c =
     let a = c.args in
-    let end = there (goal.at.has_keys-requires c).In-To in
+    let end = there (goal.at.has_keys-requires c).In-Some in
     start_by-near a.labels.now (bit a.words.now) a.len a.kind a.query.now _ end.node (omega (arith, c.if-s-gt-MOST_NUMBER.false))
-    ∙ ap (λ s. start_at (goal.at.has_keys-requires c).Start c.in-To.s.node (has_keys_by a.labels.now (bit a.words.now) a.len a.kind s)) (sym end.knows)
+    ∙ ap (λ s. start_at (goal.at.has_keys-requires c).Start c.in-Some.s.node (has_keys_by a.labels.now (bit a.words.now) a.len a.kind s)) (sym end.knows)
 
 pub returns-then-not-has_keys : goal.returns-then-not-has_keys
 returns-then-not-has_keys c =

@@ -1,8 +1,8 @@
 -- `louds::select::near_zero` meets its contract: the word of the place has the k-th zero, or too few, or the k-th stands behind the length. Assumes nothing.
+use Rattle.std.specs.Prelude.{Some}
 use Rattle.std.proofs.Common.{◌≡◌, ℕ, ◌+◌, ◌*◌, ◌/◌, ◌%◌, ◌^◌, min, sym, ap, ◌∙◌, arith}
 use Rattle.keymap.specs.Limits.{word_bits}
 use Rattle.keymap.specs.Bits.{bit}
-use Rattle.louds.specs.declared.answers.Spot.TheVariants.{At}
 use Rattle.louds.specs.Digits.{digit}
 use Rattle.louds.specs.Select.{kth, onward}
 use Rattle.louds.proofs.Laws.Select.{marks-zero}
@@ -18,7 +18,7 @@ returns-then-near-eq-WORD_BITS c =
     ∙ ap (λ (m : ℕ → ℕ). kth (onward a.from m) (min a.len ((a.from / word_bits + 1) * word_bits)) a.k) (marks-zero (bit a.words.now))
 
 -- the word has so many
-found : (c : Else-near-eq-WORD_BITS) → kth (digit (c.marks_in.result / 2 ^ (c.args.from % 64) * 2 ^ (c.args.from % 64) % 2 ^ 64)) word_bits c.args.k ≡ At c.picked-near.result
+found : (c : Else-near-eq-WORD_BITS) → kth (digit (c.marks_in.result / 2 ^ (c.args.from % 64) * 2 ^ (c.args.from % 64) % 2 ^ 64)) word_bits c.args.k ≡ Some c.picked-near.result
 found c = end-at _ c.picked-near.result c.picked-near.ensures (λ e. omega (arith, e, c.if-near-eq-WORD_BITS.false))
 
 pub overflow_add-p : goal.overflow_add-p

@@ -1,9 +1,8 @@
 -- `louds::select::nth_one` meets its contract: few are taken away from the bottom of the word, and of more those of the byte that has the j-th. Assumes nothing.
+use Rattle.std.specs.Prelude.{Some, unwrap_or}
 use Rattle.std.proofs.Common.{◌≡◌, ℕ, ◌+◌, ◌-◌, ◌*◌, ◌/◌, ◌^◌, ◌<◌, ◌≤◌, ap, ◌∙◌, arith}
 use Rattle.keymap.specs.Limits.{word_bits}
-use Rattle.louds.specs.declared.answers.Spot.TheVariants.{At}
 use Rattle.louds.specs.Digits.{digit}
-use Rattle.louds.specs.Nodes.{or_end}
 use Rattle.louds.specs.Taking.{low_bits, top_bits}
 use Rattle.louds.specs.Select.{kth}
 use Rattle.louds.proofs.Laws.Select.{kth-told}
@@ -47,12 +46,12 @@ pub overflow_sub-j : goal.overflow_sub-j
 overflow_sub-j c = omega (arith, (byte c).below, (byte c).fewer)
 
 -- by the byte's own digits
-in-byte : (c : After-picked-2) → kth (digit c.args.word) word_bits c.args.j ≡ At (c.lowest_one-start.result - 7 + c.picked-2.result)
+in-byte : (c : After-picked-2) → kth (digit c.args.word) word_bits c.args.j ≡ Some (c.lowest_one-start.result - 7 + c.picked-2.result)
 in-byte c =
     let b = byte c.before in
     let start : ℕ = c.lowest_one-start.result - 7 in
     from_byte c.args.word c.args.j start c.picked-2.result c.ranges.word.fits b.fewer c.requires.1
-    (c.picked-2.ensures ∙ ap (λ (u : ℕ). or_end word_bits (kth (digit (c.args.word / 2 ^ start)) word_bits (c.args.j - u))) b.below)
+    (c.picked-2.ensures ∙ ap (λ (u : ℕ). unwrap_or (kth (digit (c.args.word / 2 ^ start)) word_bits (c.args.j - u)) word_bits) b.below)
 
 pub overflow_add-result : goal.overflow_add-result
 overflow_add-result c =

@@ -1,15 +1,14 @@
-use Rattle.std.proofs.Common.{sym, ap, ◌∙◌, arith}
+use Rattle.std.specs.Prelude.{unwrap_or, Option}
+use Rattle.std.proofs.Common.{ℕ, sym, ap, ◌∙◌, arith}
 use Rattle.keymap.specs.Limits.{word_bits}
 use Rattle.louds.specs.Digits.{digit}
-use Rattle.louds.specs.Nodes.{or_end}
 use Rattle.louds.specs.Select.{kth}
 use Rattle.louds.proofs.Laws.Select.{kth-zero}
 use Rattle.louds.proofs.Laws.NthOne.{picking-start, picking-none, picking-next, picking-last}
 use Rattle.louds.proofs.select.picked.Goals as goal
 
 pub returns-then-j-eq0 : goal.returns-then-j-eq0
-unfolding or_end
-returns-then-j-eq0 c = let a = c.args in sym (ap (or_end word_bits) (ap (kth (digit a.word) word_bits) c.if-j-eq0.true ∙ kth-zero (digit a.word) word_bits))
+returns-then-j-eq0 c = let a = c.args in sym (ap (λ (o : Option ℕ). unwrap_or o word_bits) (ap (kth (digit a.word) word_bits) c.if-j-eq0.true ∙ kth-zero (digit a.word) word_bits))
 
 pub loop-rest-init : goal.loop-rest-init
 loop-rest-init c = picking-start c.args.word c.args.j c.ranges.word.fits (omega (arith, c.if-j-eq0.false))

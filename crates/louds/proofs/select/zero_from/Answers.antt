@@ -8,12 +8,12 @@ use Rattle.louds.specs.Select.{kth, onward}
 use Rattle.louds.proofs.Laws.Select.{marks-zero, kth-longer}
 use Rattle.louds.proofs.select.zero_from.Goals as goal
 
-pub returns-in-At : goal.returns-in-At
-returns-in-At c =
+pub returns-in-Some : goal.returns-in-Some
+returns-in-Some c =
     let a = c.args in
     let b = bit a.words.now in
     let all = (a.from / word_bits + 1) * word_bits in
-    sym (kth-longer (onward a.from (gap b)) (min a.len all) a.len a.k c.in-At.p (min-le_left a.len all) (sym c.near_zero.ensures ∙ c.in-At.is))
+    sym (kth-longer (onward a.from (gap b)) (min a.len all) a.len a.k c.in-Some.p (min-le_left a.len all) (sym c.near_zero.ensures ∙ c.in-Some.is))
 
 pub returns : goal.returns
 returns c =

@@ -1,3 +1,4 @@
+use Rattle.std.specs.Prelude.{Option}
 use mathlib.Core.Path.{◌≡◌, sym, ap, ◌∙◌}
 use mathlib.Core.List.{[]}
 use native.Mathlib.Omega.{arith}
@@ -9,7 +10,6 @@ use Rattle.keymap.specs.Image.{bits_for}
 use Rattle.keymap.proofs.Laws.Bits.{bit-small}
 use Rattle.image.specs.Meaning.{image_in}
 use Rattle.walks.specs.declared.stands.Stand.{Stand}
-use Rattle.walks.specs.declared.moves.Reached.{Reached}
 use Rattle.walks.specs.Rule.{child_by}
 use Rattle.walks.specs.Stands.{down_from, reached_at}
 use Rattle.walks.proofs.Laws.Stands.{down_rule, reached_at-to, reached_at-lost}
@@ -27,7 +27,7 @@ loop-j-init c =
     (omega arith, told ∙ ap (stand_in i) (sym same), ap (λ k. follow_from i c.args.query.now 0 k) (sym same))
 
 -- what a step answers, by the rule
-step : (c : After-down) (t : Reached) → c.down.result ≡ t
+step : (c : After-down) (t : (Option Stand)) → c.down.result ≡ t
     → reached_at (bit c.args.words.now) (bits_for (length c.args.labels.now))
     (child_by c.args.labels.now (bit c.args.words.now) (bits_for (length c.args.labels.now)) c.loop-j.s.node (get_or c.args.query.now c.loop-j.j 0))
     ≡ t
@@ -54,7 +54,7 @@ pub loop-j-preserved : goal.loop-j-preserved
 loop-j-preserved c =
     let a = c.args in
     let l = c.loop-j in
-    let there = reached_at-to (bit a.words.now) (bits_for (length a.labels.now)) _ _ (step (goal.at.loop-j-preserved c).After-down _ c.in-To.is) in
+    let there = reached_at-to (bit a.words.now) (bits_for (length a.labels.now)) _ _ (step (goal.at.loop-j-preserved c).After-down _ c.in-Some.is) in
     (omega arith, there.knows, l.invariant.2 ∙ follow-on (image_in c.args.labels c.args.values c.args.words) a.query.now l.j l.s.node (omega arith) _ there.node)
 
 -- all of the query was walked

@@ -6,17 +6,16 @@ use native.Mathlib.Omega.{arith}
 use lib.ListN.{length}
 use Rattle.keymap.specs.Bits.{bit}
 use Rattle.keymap.specs.Image.{bits_for}
-use Rattle.louds.specs.declared.answers.Children.TheVariants.{Run}
+use Rattle.louds.specs.Nodes.{Run}
 use Rattle.louds.specs.Nodes.{children_of}
 use Rattle.image.specs.Meaning.{image_in}
 use Rattle.walks.specs.declared.glide.Glided.{Glided}
 use Rattle.walks.specs.declared.stands.Stand.{Stand}
 use Rattle.walks.specs.Stands.{kid_from}
 use Rattle.walks.specs.Glide.{only_kid, glided_from}
-use Rattle.walks.proofs.Laws.Stands.{held_of-value, held_of-none}
 use Rattle.places.specs.Moves.{stand_in, count_from}
 use Rattle.places.proofs.Laws.Moves.{children-lost, children-count, only-run, goto-leaf, goto-several, goto-key, goto-parting, glide-few}
-use Rattle.places.proofs.moves.go_down.Goals.{Else-count-gt1, In-Run}
+use Rattle.places.proofs.moves.go_down.Goals.{Else-count-gt1, In-Some}
 use Rattle.places.proofs.moves.go_down.Goals as goal
 
 pub returns-in_default : goal.returns-in_default
@@ -25,31 +24,31 @@ returns-in_default c =
     sym (goto-leaf i c.args.node (children-lost i c.args.node (sym c.children.ensures ∙ c.in_default.is)))
 
 -- the children, of the node
-run : (c : In-Run)
-    → children_of (bit c.args.words.now) (bits_for (length c.args.labels.now)) c.args.node ≡ Run c.in-Run.first c.in-Run.count
-run c = sym c.children.ensures ∙ c.in-Run.is
+run : (c : In-Some)
+    → children_of (bit c.args.words.now) (bits_for (length c.args.labels.now)) c.args.node ≡ Run c.in-Some.first c.in-Some.count
+run c = sym c.children.ensures ∙ c.in-Some.is
 
 pub returns-then-count-eq0 : goal.returns-then-count-eq0
 returns-then-count-eq0 c =
-    sym (goto-leaf (image_in c.args.labels c.args.values c.args.words) c.args.node (omega (arith, (children-count (image_in c.args.labels c.args.values c.args.words) c.args.node _ _ (run (goal.at.returns-then-count-eq0 c).In-Run)).0)))
+    sym (goto-leaf (image_in c.args.labels c.args.values c.args.words) c.args.node (omega (arith, (children-count (image_in c.args.labels c.args.values c.args.words) c.args.node _ _ (run (goal.at.returns-then-count-eq0 c).In-Some)).0)))
 
 pub returns-then-count-gt1 : goal.returns-then-count-gt1
 returns-then-count-gt1 c =
-    sym (goto-several (image_in c.args.labels c.args.values c.args.words) c.args.node (omega (arith, (children-count (image_in c.args.labels c.args.values c.args.words) c.args.node _ _ (run (goal.at.returns-then-count-gt1 c).In-Run)).0, c.if-count-gt1.true)))
+    sym (goto-several (image_in c.args.labels c.args.values c.args.words) c.args.node (omega (arith, (children-count (image_in c.args.labels c.args.values c.args.words) c.args.node _ _ (run (goal.at.returns-then-count-gt1 c).In-Some)).0, c.if-count-gt1.true)))
 
 one : (c : Else-count-gt1) → count_from (image_in c.args.labels c.args.values c.args.words) (stand_in (image_in c.args.labels c.args.values c.args.words) c.args.node) ≡ 1
-one c = omega (arith, (children-count (image_in c.args.labels c.args.values c.args.words) c.args.node _ _ (run (goal.at.overflow_add-from c).In-Run)).0, c.if-count-gt1.false, c.if-count-eq0.false)
+one c = omega (arith, (children-count (image_in c.args.labels c.args.values c.args.words) c.args.node _ _ (run (goal.at.overflow_add-from c).In-Some)).0, c.if-count-gt1.false, c.if-count-eq0.false)
 
 pub overflow_add-from : goal.overflow_add-from
-overflow_add-from c = omega (arith, (children-count (image_in c.args.labels c.args.values c.args.words) c.args.node _ _ (run (goal.at.overflow_add-from c).In-Run)).1, c.if-count-eq0.false)
+overflow_add-from c = omega (arith, (children-count (image_in c.args.labels c.args.values c.args.words) c.args.node _ _ (run (goal.at.overflow_add-from c).In-Some)).1, c.if-count-eq0.false)
 
 -- the stand at it
 child : (c : Else-count-gt1) (s : Stand)
-    → s ≡ kid_from (bit c.args.words.now) (bits_for (length c.args.labels.now)) c.args.node (c.args.node + c.in-Run.first) c.in-Run.first
+    → s ≡ kid_from (bit c.args.words.now) (bits_for (length c.args.labels.now)) c.args.node (c.args.node + c.in-Some.first) c.in-Some.first
     → s ≡ only_kid (bit c.args.words.now) (bits_for (length c.args.labels.now)) (stand_in (image_in c.args.labels c.args.values c.args.words) c.args.node)
 child c s says =
     let i = image_in c.args.labels c.args.values c.args.words in
-    let there = run (goal.at.overflow_add-from c).In-Run in
+    let there = run (goal.at.overflow_add-from c).In-Some in
     says ∙ only-run i c.args.node _ _ there (omega (arith, one c, (children-count i c.args.node _ _ there).0))
 
 -- where a glide from it ends
@@ -60,7 +59,7 @@ gone c =
     glided_from c.args.labels.now c.args.values.now b len (only_kid b len (stand_in (image_in c.args.labels c.args.values c.args.words) c.args.node))
 
 glided : (c : Else-count-gt1) (s : Stand) (g : Glided)
-    → s ≡ kid_from (bit c.args.words.now) (bits_for (length c.args.labels.now)) c.args.node (c.args.node + c.in-Run.first) c.in-Run.first
+    → s ≡ kid_from (bit c.args.words.now) (bits_for (length c.args.labels.now)) c.args.node (c.args.node + c.in-Some.first) c.in-Some.first
     → g ≡ glided_from c.args.labels.now c.args.values.now (bit c.args.words.now) (bits_for (length c.args.labels.now)) s
     → g ≡ gone c
 glided c s g stands ends =
@@ -73,10 +72,10 @@ overflow_add-distance c =
     let few = glide-few a.labels.now a.values.now (bit a.words.now) (bits_for (length a.labels.now)) c.kid_at-c.result in
     omega (arith, ap (λ (g : Glided). g.steps) c.glide-g.ensures, few, c.well_formed.0.1)
 
-pub returns-in-Value : goal.returns-in-Value
-returns-in-Value c =
-    goto-key (image_in c.args.labels c.args.values c.args.words) c.args.node (one (goal.at.returns-in-Value c).Else-count-gt1) _ (glided (goal.at.returns-in-Value c).Else-count-gt1 _ _ c.kid_at-c.ensures c.glide-g.ensures) _ c.place_number.ensures _ (held_of-value _ _ (sym c.value_at.ensures ∙ c.in-Value.is))
+pub returns-in-Some : goal.returns-in-Some
+returns-in-Some c =
+    goto-key (image_in c.args.labels c.args.values c.args.words) c.args.node (one (goal.at.returns-in-Some c).Else-count-gt1) _ (glided (goal.at.returns-in-Some c).Else-count-gt1 _ _ c.kid_at-c.ensures c.glide-g.ensures) _ c.place_number.ensures _ ((sym c.value_at.ensures ∙ c.in-Some.is))
 
-pub returns-in-NoValue : goal.returns-in-NoValue
-returns-in-NoValue c =
-    goto-parting (image_in c.args.labels c.args.values c.args.words) c.args.node (one (goal.at.returns-in-NoValue c).Else-count-gt1) _ (glided (goal.at.returns-in-NoValue c).Else-count-gt1 _ _ c.kid_at-c.ensures c.glide-g.ensures) _ c.place_number-in-NoValue.ensures (held_of-none _ (sym c.value_at.ensures ∙ c.in-NoValue.is))
+pub returns-in-None : goal.returns-in-None
+returns-in-None c =
+    goto-parting (image_in c.args.labels c.args.values c.args.words) c.args.node (one (goal.at.returns-in-None c).Else-count-gt1) _ (glided (goal.at.returns-in-None c).Else-count-gt1 _ _ c.kid_at-c.ensures c.glide-g.ensures) _ c.place_number-in-None.ensures ((sym c.value_at.ensures ∙ c.in-None.is))

@@ -1,4 +1,5 @@
 -- `places::moves::step_by` meets its contract: a step down goes where the rule goes. Assumes nothing.
+use Rattle.std.specs.Prelude.{Option}
 use mathlib.Core.Path.{◌≡◌, sym, ap, ◌∙◌}
 use lib.ListN.{length}
 use Rattle.keymap.specs.Bits.{bit}
@@ -6,7 +7,6 @@ use Rattle.keymap.specs.Image.{bits_for}
 use Rattle.keymap.proofs.Laws.Bits.{bit-small}
 use Rattle.image.specs.Meaning.{image_in}
 use Rattle.walks.specs.declared.stands.Stand.{Stand}
-use Rattle.walks.specs.declared.moves.Reached.{Reached}
 use Rattle.walks.specs.Rule.{child_by}
 use Rattle.walks.specs.Stands.{down_from, reached_at}
 use Rattle.walks.proofs.Laws.Stands.{down_rule, reached_at-to, reached_at-lost}
@@ -17,7 +17,7 @@ use Rattle.places.proofs.moves.step_by.Goals.{After-down}
 use Rattle.places.proofs.moves.step_by.Goals as goal
 
 -- what the step answers, by the rule
-told : (c : After-down) (t : Reached) → c.down.result ≡ t
+told : (c : After-down) (t : (Option Stand)) → c.down.result ≡ t
     → reached_at (bit c.args.words.now) (bits_for (length c.args.labels.now))
     (child_by c.args.labels.now (bit c.args.words.now) (bits_for (length c.args.labels.now)) c.args.node c.args.label)
     ≡ t
@@ -38,7 +38,7 @@ returns-in_default c =
 pub returns : goal.returns
 returns c =
     let a = c.args in
-    let there = reached_at-to (bit a.words.now) (bits_for (length a.labels.now)) _ _ (told (goal.at.returns c).After-down _ c.in-To.is) in
+    let there = reached_at-to (bit a.words.now) (bits_for (length a.labels.now)) _ _ (told (goal.at.returns c).After-down _ c.in-Some.is) in
     let says = c.answer_at.ensures ∙ ap (answer_by (image_in c.args.labels c.args.values c.args.words)) there.knows in
     let number = c.place_number.ensures in
     (λ x. record { answer = Found (says x); node = number x }) ∙ sym (query-found (image_in c.args.labels c.args.values c.args.words) a.node a.label _ there.node)

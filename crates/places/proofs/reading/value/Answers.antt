@@ -2,7 +2,7 @@
 use mathlib.Core.Path.{◌≡◌, sym, ap, ◌∙◌}
 use mathlib.Core.Bool.{Bool, true}
 use Prim.Native.Nat.{ℕ}
-use mathlib.Core.Option.{Option}
+use Rattle.std.specs.Prelude.{Option}
 use lib.ListN.{length}
 use Rattle.keymap.specs.Answers.{says_value}
 use Rattle.keymap.specs.Paths.{is_node}
@@ -12,7 +12,6 @@ use Rattle.image.specs.AcceptTest.{image_test}
 use Rattle.image.specs.Meaning.{image_in, MapImage}
 use Rattle.image.proofs.Laws.Meaning.{tested-map_image}
 use Rattle.walks.proofs.Laws.MapWalk.{node-value}
-use Rattle.walks.proofs.Laws.Stands.{held_of-value, held_of-none}
 use Rattle.walks.specs.Rule.{is_node_of, value_of_node}
 use Rattle.walks.proofs.Laws.MapImage.{is_node-is}
 use Rattle.places.specs.Places.{value_says}
@@ -49,12 +48,12 @@ held c inside v e =
     let node = c.args.place.node in
     value-is i node ∙ on_place-kept i node _ (tested c) inside ∙ ap says_value (sym (node-value i (whole c) node ((is_node-iff _ _).0 inside)) ∙ e)
 
-pub returns-in-Value : goal.returns-in-Value
-returns-in-Value c =
-    let inside = node-told (goal.at.returns-in-Value c).Else-not-is_image _ _ c.is_node.ensures c.if-not-is_node.false in
-    record { answer = sym (held (goal.at.returns-in-Value c).Else-not-is_image inside _ (held_of-value _ _ (sym c.value_at.ensures ∙ c.in-Value.is))) }
+pub returns-in-Some : goal.returns-in-Some
+returns-in-Some c =
+    let inside = node-told (goal.at.returns-in-Some c).Else-not-is_image _ _ c.is_node.ensures c.if-not-is_node.false in
+    record { answer = sym (held (goal.at.returns-in-Some c).Else-not-is_image inside _ ((sym c.value_at.ensures ∙ c.in-Some.is))) }
 
-pub returns-in-NoValue : goal.returns-in-NoValue
-returns-in-NoValue c =
-    let inside = node-told (goal.at.returns-in-NoValue c).Else-not-is_image _ _ c.is_node.ensures c.if-not-is_node.false in
-    record { answer = sym (held (goal.at.returns-in-NoValue c).Else-not-is_image inside _ (held_of-none _ (sym c.value_at.ensures ∙ c.in-NoValue.is))) }
+pub returns-in-None : goal.returns-in-None
+returns-in-None c =
+    let inside = node-told (goal.at.returns-in-None c).Else-not-is_image _ _ c.is_node.ensures c.if-not-is_node.false in
+    record { answer = sym (held (goal.at.returns-in-None c).Else-not-is_image inside _ ((sym c.value_at.ensures ∙ c.in-None.is))) }

@@ -1,6 +1,6 @@
 use mathlib.Core.Path.{◌≡◌, sym, ap, ◌∙◌}
 use mathlib.Core.List.{[]}
-use mathlib.Core.Option.{Option, some}
+use Rattle.std.specs.Prelude.{Option, Some}
 use Prim.Native.Nat.{ℕ, ◌+◌}
 use native.Mathlib.Omega.{arith}
 use lib.ListN.{length, get_or, drop}
@@ -10,13 +10,12 @@ use Rattle.keymap.specs.Image.{bits_for}
 use Rattle.keymap.proofs.Laws.Bits.{bit-small}
 use Rattle.image.specs.Meaning.{image_in}
 use Rattle.walks.specs.declared.stands.Stand.{Stand}
-use Rattle.walks.specs.declared.moves.Reached.{Reached}
 use Rattle.walks.specs.Rule.{child_by, value_of_node}
 use Rattle.walks.specs.Stands.{stand_at, down_from, reached_at}
-use Rattle.walks.proofs.Laws.Stands.{down_rule, ReachedTold, reached_at-to, reached_at-lost, held_of-value, held_of-none}
+use Rattle.walks.proofs.Laws.Stands.{down_rule, ReachedTold, reached_at-to, reached_at-lost}
 use Rattle.searches.specs.CommonPrefixes.{unless_seen, or_further, shortest_from, match_of}
 use Rattle.searches.proofs.Laws.CommonPrefixes.{shortest-end, shortest-next, shortest-lost}
-use Rattle.searches.proofs.common_prefixes.shortest.Goals.{In-loop-depth, In-To}
+use Rattle.searches.proofs.common_prefixes.shortest.Goals.{In-loop-depth, In-Some}
 use Rattle.searches.proofs.common_prefixes.shortest.Goals as goal
 
 pub loop-depth-init : goal.loop-depth-init
@@ -24,10 +23,10 @@ loop-depth-init c =
     let a = c.args in
     let told = c.stand_at-s.ensures in
     let one : c.stand_at-s.result.node ≡ 1 = ap (λ (s : Stand). s.node) told in
-    (omega arith, told ∙ ap (stand_at (bit a.words.now) (bits_for (length a.labels.now))) (sym one), ap (λ k. shortest_from (image_in c.args.labels c.args.values c.args.words) a.seen a.query.now 0 (some k)) (sym one))
+    (omega arith, told ∙ ap (stand_at (bit a.words.now) (bits_for (length a.labels.now))) (sym one), ap (λ k. shortest_from (image_in c.args.labels c.args.values c.args.words) a.seen a.query.now 0 (Some k)) (sym one))
 
 -- what a step answers, by the rule
-step : (c : In-loop-depth) (r t : Reached)
+step : (c : In-loop-depth) (r t : (Option Stand))
     → r ≡ down_from c.args.labels.now (bit c.args.words.now) (bits_for (length c.args.labels.now)) c.loop-depth.s (get_or c.args.query.now c.loop-depth.depth 0)
     → r ≡ t
     → let a = c.args in
@@ -53,47 +52,47 @@ returns-in_default c =
     let l = c.loop-depth in
     let a = c.args in
     let lost = reached_at-lost (bit a.words.now) (bits_for (length a.labels.now)) _ (step (goal.at.returns-in_default c).In-loop-depth _ _ c.down.ensures c.in_default.is) in
-    sym (ap match_of (l.invariant.2 ∙ shortest-lost (image_in c.args.labels c.args.values c.args.words) a.seen a.query.now l.depth (some l.s.node) (omega arith) lost))
+    sym (ap match_of (l.invariant.2 ∙ shortest-lost (image_in c.args.labels c.args.values c.args.words) a.seen a.query.now l.depth (Some l.s.node) (omega arith) lost))
 
 -- where the step led, and what is found from there on
-there : (c : In-To)
+there : (c : In-Some)
     → let a = c.args in
     let b = bit a.words.now in
     let len = bits_for (length a.labels.now) in
-    ReachedTold b len (child_by a.labels.now b len c.loop-depth.s.node (get_or a.query.now c.loop-depth.depth 0)) c.in-To.t
+    ReachedTold b len (child_by a.labels.now b len c.loop-depth.s.node (get_or a.query.now c.loop-depth.depth 0)) c.in-Some.t
 there c =
     let a = c.args in
-    reached_at-to (bit a.words.now) (bits_for (length a.labels.now)) _ _ (step (goal.at.overflow_add-depth c).In-loop-depth _ _ c.down.ensures c.in-To.is)
+    reached_at-to (bit a.words.now) (bits_for (length a.labels.now)) _ _ (step (goal.at.overflow_add-depth c).In-loop-depth _ _ c.down.ensures c.in-Some.is)
 
-onward : (c : In-To)
+onward : (c : In-Some)
     → let l = c.loop-depth in
     let a = c.args in
-    let node = c.in-To.t.node in
-    shortest_from (image_in c.args.labels c.args.values c.args.words) a.seen a.query.now 0 (some 1)
+    let node = c.in-Some.t.node in
+    shortest_from (image_in c.args.labels c.args.values c.args.words) a.seen a.query.now 0 (Some 1)
     ≡ or_further (l.depth + 1) (unless_seen a.seen (l.depth + 1) (value_of_node a.labels.now a.values.now node))
-    (shortest_from (image_in c.args.labels c.args.values c.args.words) a.seen (drop (l.depth + 1) a.query.now) (l.depth + 1) (some node))
+    (shortest_from (image_in c.args.labels c.args.values c.args.words) a.seen (drop (l.depth + 1) a.query.now) (l.depth + 1) (Some node))
 onward c =
     let l = c.loop-depth in
     let a = c.args in
-    l.invariant.2 ∙ shortest-next (image_in c.args.labels c.args.values c.args.words) a.seen a.query.now l.depth (some l.s.node) (some c.in-To.t.node) (omega arith) (there c).node
+    l.invariant.2 ∙ shortest-next (image_in c.args.labels c.args.values c.args.words) a.seen a.query.now l.depth (Some l.s.node) (Some c.in-Some.t.node) (omega arith) (there c).node
 
-pub returns-in-Value : goal.returns-in-Value
-returns-in-Value c =
+pub returns-in-Some : goal.returns-in-Some
+returns-in-Some c =
     let l = c.loop-depth in
     let a = c.args in
-    let node = c.in-To.t.node in
-    let held = held_of-value (unless_seen a.seen (l.depth + 1) (value_of_node a.labels.now a.values.now node)) _ (sym c.unseen_value.ensures ∙ c.in-Value.is) in
-    let further = shortest_from (image_in c.args.labels c.args.values c.args.words) a.seen (drop (l.depth + 1) a.query.now) (l.depth + 1) (some node) in
-    sym (ap match_of (onward (goal.at.returns-in-Value c).In-To ∙ ap (λ (o : Option ℕ). or_further (l.depth + 1) o further) held))
+    let node = c.in-Some.t.node in
+    let held = (sym c.unseen_value.ensures ∙ c.in-Some.is) in
+    let further = shortest_from (image_in c.args.labels c.args.values c.args.words) a.seen (drop (l.depth + 1) a.query.now) (l.depth + 1) (Some node) in
+    sym (ap match_of (onward (goal.at.returns-in-Some c).In-Some ∙ ap (λ (o : Option ℕ). or_further (l.depth + 1) o further) held))
 
 pub loop-depth-preserved : goal.loop-depth-preserved
 loop-depth-preserved c =
     let l = c.loop-depth in
     let a = c.args in
-    let node = c.in-To.t.node in
-    let held = held_of-none (unless_seen a.seen (l.depth + 1) (value_of_node a.labels.now a.values.now node)) (sym c.unseen_value.ensures ∙ c.in-NoValue.is) in
-    let further = shortest_from (image_in c.args.labels c.args.values c.args.words) a.seen (drop (l.depth + 1) a.query.now) (l.depth + 1) (some node) in
-    (omega arith, (there (goal.at.loop-depth-preserved c).In-To).knows, onward (goal.at.loop-depth-preserved c).In-To ∙ ap (λ (o : Option ℕ). or_further (l.depth + 1) o further) held)
+    let node = c.in-Some.t.node in
+    let held = (sym c.unseen_value.ensures ∙ c.in-None.is) in
+    let further = shortest_from (image_in c.args.labels c.args.values c.args.words) a.seen (drop (l.depth + 1) a.query.now) (l.depth + 1) (Some node) in
+    (omega arith, (there (goal.at.loop-depth-preserved c).In-Some).knows, onward (goal.at.loop-depth-preserved c).In-Some ∙ ap (λ (o : Option ℕ). or_further (l.depth + 1) o further) held)
 
 pub returns : goal.returns
 returns c =
@@ -104,5 +103,5 @@ returns c =
     sym
     (ap match_of
     (l.invariant.2
-    ∙ ap (λ r. shortest_from (image_in c.args.labels c.args.values c.args.words) a.seen r l.depth (some l.s.node)) rest
-    ∙ shortest-end (image_in c.args.labels c.args.values c.args.words) a.seen l.depth (some l.s.node)))
+    ∙ ap (λ r. shortest_from (image_in c.args.labels c.args.values c.args.words) a.seen r l.depth (Some l.s.node)) rest
+    ∙ shortest-end (image_in c.args.labels c.args.values c.args.words) a.seen l.depth (Some l.s.node)))

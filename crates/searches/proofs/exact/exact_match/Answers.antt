@@ -34,5 +34,5 @@ pub returns : goal.returns
 returns c =
     let i = image_in c.args.labels c.args.values c.args.words in
     let q = c.args.query.now in
-    let held = (keyed-found i q _ _ (sym c.find.ensures ∙ c.in-At.is)).value in
+    let held = (keyed-found i q _ _ (sym c.find.ensures ∙ c.in-Some.is)).value in
     record { answer = sym (exact_says-accepted i q (tested (goal.at.returns c).Else-not-is_image) ∙ ap says_value (sym (value-rule i (whole (goal.at.returns c).Else-not-is_image) q) ∙ held)) }

@@ -21,5 +21,5 @@ returns c =
     let a = c.args in
     let b = bit a.words.now in
     let len = bits_for (length a.labels.now) in
-    let end = reached_at-to b len _ _ (sym c.walk.ensures ∙ c.in-To.is) in
+    let end = reached_at-to b len _ _ (sym c.walk.ensures ∙ c.in-Some.is) in
     ap (λ (k : Kids). ltb 0 k.count) (c.kids-k.ensures ∙ ap (kids_from b len) end.knows) ∙ sym (goes_on-ended (as_image c.args.labels.now [] c.args.words.now) a.query.now _ end.node)

@@ -10,7 +10,7 @@ use Rattle.image.proofs.Laws.Meaning.{tested-map_image}
 use Rattle.keymap.specs.Answers.{says_value}
 use Rattle.walks.proofs.Laws.MapWalk.{value-rule}
 use Rattle.searches.proofs.Laws.Exact.{Found, keyed-found, keyed-missed, found_inside, found-key, exact_says-refused, exact_says-accepted, set_values-refused, set_values-absent, set_values-present}
-use Rattle.searches.proofs.exact.set_value.Goals.{Else-not-is_image, In-At}
+use Rattle.searches.proofs.exact.set_value.Goals.{Else-not-is_image, In-Some}
 use Rattle.searches.proofs.exact.set_value.Goals as goal
 
 pub returns-then-not-is_image : goal.returns-then-not-is_image
@@ -37,10 +37,10 @@ returns-in_default c =
     let absent = sym (value-rule i (whole (goal.at.returns-in_default c).Else-not-is_image) q) ∙ keyed-missed i q (sym c.find.ensures ∙ c.in_default.is) in record { answer = sym (exact_says-accepted i q accepted ∙ ap says_value absent); written = sym (set_values-absent i q accepted c.args.value absent) }
 
 -- the key that was found
-found : (c : In-At)
+found : (c : In-Some)
     →
-    Found (as_image c.args.labels.now c.args.values.now c.args.words.now) c.args.query.now c.in-At.node c.in-At.old
-found c = keyed-found _ _ _ _ (sym c.find.ensures ∙ c.in-At.is)
+    Found (as_image c.args.labels.now c.args.values.now c.args.words.now) c.args.query.now c.in-Some.node c.in-Some.old
+found c = keyed-found _ _ _ _ (sym c.find.ensures ∙ c.in-Some.is)
 
 pub overflow_sub-values : goal.overflow_sub-values
 overflow_sub-values c = omega (arith, found_inside _ _ _ _ (found c))

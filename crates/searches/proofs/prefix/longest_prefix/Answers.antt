@@ -16,7 +16,7 @@ use Rattle.walks.specs.Rule.{node_by}
 use Rattle.walks.proofs.Laws.Stands.{ReachedTold, reached_at-to, reached_at-lost}
 use Rattle.climbs.proofs.Laws.Spelling.{spell-path, spelled-all}
 use Rattle.searches.proofs.Laws.Prefix.{common-unreached, end_of, longest-refused, longest-missed, longest-short, longest-written}
-use Rattle.searches.proofs.prefix.longest_prefix.Goals.{Else-not-is_image, In-To}
+use Rattle.searches.proofs.prefix.longest_prefix.Goals.{Else-not-is_image, In-Some}
 use Rattle.searches.proofs.prefix.longest_prefix.Goals as goal
 
 pub returns-then-not-is_image : goal.returns-then-not-is_image
@@ -42,27 +42,27 @@ returns-in_default c =
     let is = longest-missed i q c.args.out.now (tested (goal.at.returns-in_default c).Else-not-is_image) (ap length empty) in record { answer = sym is.says_is; written = sym is.after_is }
 
 -- where the walk ended
-there : (c : In-To)
+there : (c : In-Some)
     →
-    ReachedTold (bit c.args.words.now) (bits_for (entries (image_in c.args.labels c.args.values c.args.words))) (node_by (image_in c.args.labels c.args.values c.args.words) c.args.query.now) c.in-To.s
-there c = reached_at-to _ _ _ _ (sym c.walk.ensures ∙ c.in-To.is)
+    ReachedTold (bit c.args.words.now) (bits_for (entries (image_in c.args.labels c.args.values c.args.words))) (node_by (image_in c.args.labels c.args.values c.args.words) c.args.query.now) c.in-Some.s
+there c = reached_at-to _ _ _ _ (sym c.walk.ensures ∙ c.in-Some.is)
 
 pub overflow_add-length : goal.overflow_add-length
-overflow_add-length c = omega (arith, (end_of _ (whole (goal.at.overflow_add-length c).Else-not-is_image) _ _ _ (there (goal.at.overflow_add-length c).In-To) c.glide-g.ensures).far, (end_of _ (whole (goal.at.overflow_add-length c).Else-not-is_image) _ _ _ (there (goal.at.overflow_add-length c).In-To) c.glide-g.ensures).short)
+overflow_add-length c = omega (arith, (end_of _ (whole (goal.at.overflow_add-length c).Else-not-is_image) _ _ _ (there (goal.at.overflow_add-length c).In-Some) c.glide-g.ensures).far, (end_of _ (whole (goal.at.overflow_add-length c).Else-not-is_image) _ _ _ (there (goal.at.overflow_add-length c).In-Some) c.glide-g.ensures).short)
 
 pub returns-then-length-eq0 : goal.returns-then-length-eq0
 returns-then-length-eq0 c =
-    let none_left = (end_of _ (whole (goal.at.returns-then-length-eq0 c).Else-not-is_image) _ _ _ (there (goal.at.returns-then-length-eq0 c).In-To) c.glide-g.ensures).far in
+    let none_left = (end_of _ (whole (goal.at.returns-then-length-eq0 c).Else-not-is_image) _ _ _ (there (goal.at.returns-then-length-eq0 c).In-Some) c.glide-g.ensures).far in
     let is = longest-missed (image_in c.args.labels c.args.values c.args.words) c.args.query.now c.args.out.now (tested (goal.at.returns-then-length-eq0 c).Else-not-is_image) (omega arith) in record { answer = sym is.says_is; written = sym is.after_is }
 
 pub returns-then-out-length : goal.returns-then-out-length
 returns-then-out-length c =
-    let far = (end_of _ (whole (goal.at.returns-then-out-length c).Else-not-is_image) _ _ _ (there (goal.at.returns-then-out-length c).In-To) c.glide-g.ensures).far in
+    let far = (end_of _ (whole (goal.at.returns-then-out-length c).Else-not-is_image) _ _ _ (there (goal.at.returns-then-out-length c).In-Some) c.glide-g.ensures).far in
     let is = longest-short (image_in c.args.labels c.args.values c.args.words) c.args.query.now c.args.out.now (tested (goal.at.returns-then-out-length c).Else-not-is_image) (omega arith) (omega arith) in record { answer = sym is.says_is; written = sym is.after_is }
 
 pub returns : goal.returns
 returns c =
-    let at = end_of _ (whole (goal.at.returns c).Else-not-is_image) _ _ _ (there (goal.at.returns c).In-To) c.glide-g.ensures in
+    let at = end_of _ (whole (goal.at.returns c).Else-not-is_image) _ _ _ (there (goal.at.returns c).In-Some) c.glide-g.ensures in
     let is = longest-written (image_in c.args.labels c.args.values c.args.words) c.args.query.now c.args.out.now (tested (goal.at.returns c).Else-not-is_image) (omega (arith, at.far, c.if-length-eq0.false)) (omega (arith, at.far, c.if-out-length.false)) in
     let r = c.glide-g.result in
     let spelled = spell-path (image_in c.args.labels c.args.values c.args.words) (whole (goal.at.returns c).Else-not-is_image) r.stand.node at.inside (length c.args.query.now + r.steps) (omega (arith, at.far, ap length at.path)) c.args.out.now (omega (arith, c.if-out-length.false)) in record { answer = ap (λ n. 0 ∷ n ∷ []) at.far ∙ sym is.says_is; written = c.spell.ensures ∙ spelled ∙ spelled-all _ _ _ c.args.out.now at.path at.far ∙ sym is.after_is }

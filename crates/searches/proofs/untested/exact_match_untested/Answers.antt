@@ -27,5 +27,5 @@ pub returns : goal.returns
 returns c =
     let i = image_in c.args.labels c.args.values c.args.words in
     let q = c.args.query.now in
-    let held = (keyed-found i q _ _ (sym c.find.ensures ∙ c.in-At.is)).value in
+    let held = (keyed-found i q _ _ (sym c.find.ensures ∙ c.in-Some.is)).value in
     record { answer = sym (untested_says-found i q (tested (goal.at.returns c).Else-not-lengths_fit) ∙ ap says_value held) }

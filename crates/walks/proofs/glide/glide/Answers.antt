@@ -7,7 +7,7 @@ use Rattle.keymap.specs.Bits.{bit}
 use Rattle.walks.specs.declared.stands.Stand.{Stand}
 use Rattle.walks.specs.Glide.{goes_through, only_kid, glides}
 use Rattle.walks.proofs.Laws.Glide.{through-told, onward-to, onward-end, glided-starts, glides-end, glides-on}
-use Rattle.walks.proofs.glide.glide.Goals.{In-To}
+use Rattle.walks.proofs.glide.glide.Goals.{In-Some}
 use Rattle.walks.proofs.glide.glide.Goals as goal
 
 pub loop-t-init : goal.loop-t-init
@@ -24,16 +24,16 @@ returns-in_default c =
     sym (l.invariant.1 ∙ glides-end a.labels.now a.values.now b a.len (length a.labels.now + 1 - l.stand.node) l.stand l.steps ends)
 
 -- the step that was made
-further : (c : In-To)
+further : (c : In-Some)
     → (goes_through c.args.labels.now c.args.values.now (bit c.args.words.now) c.args.len c.loop-t.stand ≡ true)
-    × (only_kid (bit c.args.words.now) c.args.len c.loop-t.stand ≡ c.in-To.t)
+    × (only_kid (bit c.args.words.now) c.args.len c.loop-t.stand ≡ c.in-Some.t)
 further c =
     let a = c.args in
-    onward-to a.labels.now a.values.now (bit a.words.now) a.len c.loop-t.stand _ (sym c.onward.ensures ∙ c.in-To.is)
+    onward-to a.labels.now a.values.now (bit a.words.now) a.len c.loop-t.stand _ (sym c.onward.ensures ∙ c.in-Some.is)
 
 -- it led to a higher number, up to n + 1
-higher : (c : In-To)
-    → (c.loop-t.stand.node < c.in-To.t.node) × (c.in-To.t.node ≤ length c.args.labels.now + 1)
+higher : (c : In-Some)
+    → (c.loop-t.stand.node < c.in-Some.t.node) × (c.in-Some.t.node ≤ length c.args.labels.now + 1)
 higher c =
     let a = c.args in
     let t = through-told a.labels.now a.values.now (bit a.words.now) a.len c.loop-t.stand (further c).0 in

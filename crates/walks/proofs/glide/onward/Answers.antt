@@ -1,31 +1,29 @@
 -- `walks::glide::onward` meets its contract: each return is a case of the definition's test. Assumes nothing.
 use mathlib.Core.Path.{◌≡◌, sym, ap, ◌∙◌}
-use mathlib.Core.Option.{none}
+use Rattle.std.specs.Prelude.{None, Some}
 use lib.ListN.{length}
 use Rattle.keymap.specs.Bits.{bit}
 use Rattle.walks.specs.declared.answers.Kids.{Kids}
-use Rattle.walks.specs.declared.moves.Reached.TheVariants.{To}
 use Rattle.walks.specs.Rule.{counts, value_of_node}
 use Rattle.walks.specs.Stands.{kid_from}
 use Rattle.walks.specs.Glide.{goes_through}
-use Rattle.walks.proofs.Laws.Stands.{held_of-value, held_of-none}
 use Rattle.walks.proofs.Laws.Glide.{through-valued, through-parted, through-kid, onward-goes, onward_stops}
-use Rattle.walks.proofs.glide.onward.Goals.{After-counts_to, In-NoValue}
+use Rattle.walks.proofs.glide.onward.Goals.{After-counts_to, In-None}
 use Rattle.walks.proofs.glide.onward.Goals as goal
 
 pub returns-in_default : goal.returns-in_default
 returns-in_default c =
     let a = c.args in
     let b = bit a.words.now in
-    let held = held_of-value (value_of_node a.labels.now a.values.now a.s.node) _ (sym c.value_at.ensures ∙ c.in_default.is) in
+    let held = (sym c.value_at.ensures ∙ c.in_default.is) in
     sym (onward_stops a.labels.now a.values.now b a.len a.s (through-valued a.labels.now a.values.now b a.len a.s _ held))
 
 -- past the test the node has no value
-bare : (c : In-NoValue)
-    → value_of_node c.args.labels.now c.args.values.now c.args.s.node ≡ none
+bare : (c : In-None)
+    → value_of_node c.args.labels.now c.args.values.now c.args.s.node ≡ None
 bare c =
     let a = c.args in
-    held_of-none (value_of_node a.labels.now a.values.now a.s.node) (sym c.value_at.ensures ∙ c.in-NoValue.is)
+    (sym c.value_at.ensures ∙ c.in-None.is)
 
 pub returns-then-k-ne1 : goal.returns-then-k-ne1
 returns-then-k-ne1 c =
@@ -33,7 +31,7 @@ returns-then-k-ne1 c =
     let b = bit a.words.now in
     sym
     (onward_stops a.labels.now a.values.now b a.len a.s
-    (through-parted a.labels.now a.values.now b a.len a.s (bare (goal.at.returns-then-k-ne1 c).In-NoValue)
+    (through-parted a.labels.now a.values.now b a.len a.s (bare (goal.at.returns-then-k-ne1 c).In-None)
     (λ one. c.if-k-ne1.true (ap (λ (k : Kids). k.count) c.kids-k.ensures ∙ one))))
 
 -- with no value and one child, that child's test decides
@@ -44,7 +42,7 @@ tested c =
     let a = c.args in
     let run = c.kids-k.ensures in
     let one = sym (ap (λ (k : Kids). k.count) run) ∙ c.if-k-ne1.false in
-    through-kid a.labels.now a.values.now (bit a.words.now) a.len a.s (held_of-none (value_of_node a.labels.now a.values.now a.s.node) (sym c.value_at.ensures ∙ c.in-NoValue.is)) one
+    through-kid a.labels.now a.values.now (bit a.words.now) a.len a.s ((sym c.value_at.ensures ∙ c.in-None.is)) one
     ∙ ap (λ (k : Kids). counts (length a.labels.now) a.s.node k.first) (sym run)
     ∙ sym c.counts_to.ensures
 
@@ -58,5 +56,5 @@ returns c =
     let a = c.args in
     let b = bit a.words.now in
     let run = c.kids-k.ensures in
-    ap To (c.kid_at.ensures ∙ ap (λ (k : Kids). kid_from b a.len a.s.node k.next k.first) run)
+    ap Some (c.kid_at.ensures ∙ ap (λ (k : Kids). kid_from b a.len a.s.node k.next k.first) run)
     ∙ sym (onward-goes a.labels.now a.values.now b a.len a.s (tested (goal.at.returns c).After-counts_to ∙ c.if-not-counts_to.false))

@@ -1,15 +1,14 @@
 -- `walks::moves::down` meets its contract: its two calls are the definition's. Assumes nothing.
+use Rattle.std.specs.Prelude.{Option, Some}
 use mathlib.Core.Path.{◌≡◌, sym, ap, ap₂, subst, ◌∙◌}
 use Prim.Native.Nat.{ℕ, ◌+◌, ◌-◌}
 use native.Mathlib.Omega.{arith}
 use Rattle.keymap.specs.Bits.{bit}
-use Rattle.walks.specs.declared.entries.Child.{Child}
 use Rattle.walks.specs.declared.answers.Kids.{Kids}
-use Rattle.walks.specs.declared.moves.Reached.TheVariants.{To}
 use Rattle.walks.specs.Rule.{lowest_by}
-use Rattle.walks.specs.Stands.{kids_from, kid_from, child_of}
+use Rattle.walks.specs.Stands.{kids_from, kid_from}
 use Rattle.walks.proofs.Laws.Rule.{lowest_by-end}
-use Rattle.walks.proofs.Laws.Stands.{Numbered, kids-numbered, child_of-node, child_of-absent, down_from-there, down_from-absent}
+use Rattle.walks.proofs.Laws.Stands.{Numbered, kids-numbered, down_from-there, down_from-absent}
 use Rattle.walks.proofs.moves.down.Goals.{After-child_within, After-kids-k}
 use Rattle.walks.proofs.moves.down.Goals as goal
 
@@ -36,7 +35,7 @@ pub overflow_add-before : goal.overflow_add-before
 overflow_add-before c = omega (arith, (numbered (goal.at.overflow_add-before c).After-kids-k).within, c.ranges.len.fits)
 
 -- what was looked for, of the children as they are defined
-looked : (c : After-child_within) (t : Child) → c.child_within.result ≡ t
+looked : (c : After-child_within) (t : (Option ℕ)) → c.child_within.result ≡ t
     → child_of
     (lowest_by c.args.labels.now c.args.s.node (kids_from (bit c.args.words.now) c.args.len c.args.s).count (kids_from (bit c.args.words.now) c.args.len c.args.s).first c.args.label)
     ≡ t
@@ -47,22 +46,22 @@ looked c t e =
     let some_IsFirst = c.if-k-eq0.false in
     let count : k.first - 1 + k.count - (k.first - 1) ≡ k.count = omega arith in
     let first : k.first - 1 + 1 ≡ k.first = omega (arith, some_IsFirst) in
-    ap₂ (λ (n m : ℕ). child_of (lowest_by a.labels.now a.s.node n m a.label)) (ap (λ (x : Kids). x.count) (sym run) ∙ sym count) (ap (λ (x : Kids). x.first) (sym run) ∙ sym first)
+    ap₂ (λ (n m : ℕ). (lowest_by a.labels.now a.s.node n m a.label)) (ap (λ (x : Kids). x.count) (sym run) ∙ sym count) (ap (λ (x : Kids). x.first) (sym run) ∙ sym first)
     ∙ sym c.child_within.ensures
     ∙ e
 
-pub returns-in-Node : goal.returns-in-Node
-returns-in-Node c =
+pub returns-in-Some : goal.returns-in-Some
+returns-in-Some c =
     let a = c.args in
     let b = bit a.words.now in
     let run = c.kids-k.ensures in
-    let there = child_of-node (lowest_by a.labels.now a.s.node (kids_from (bit c.args.words.now) c.args.len c.args.s).count (kids_from (bit c.args.words.now) c.args.len c.args.s).first a.label) _ (looked (goal.at.returns-in-Node c).After-child_within _ c.in-Node.is) in
-    ap To (c.kid_at.ensures ∙ ap (λ (k : Kids). kid_from b a.len a.s.node k.next c.in-Node.m) run)
+    let there = (looked (goal.at.returns-in-Some c).After-child_within _ c.in-Some.is) in
+    ap Some (c.kid_at.ensures ∙ ap (λ (k : Kids). kid_from b a.len a.s.node k.next c.in-Some.m) run)
     ∙ sym (down_from-there a.labels.now b a.len a.s a.label _ there)
 
-pub returns-in-Absent : goal.returns-in-Absent
-returns-in-Absent c =
+pub returns-in-None : goal.returns-in-None
+returns-in-None c =
     let a = c.args in
     sym
     (down_from-absent a.labels.now (bit a.words.now) a.len a.s a.label
-    (child_of-absent (lowest_by a.labels.now a.s.node (kids_from (bit c.args.words.now) c.args.len c.args.s).count (kids_from (bit c.args.words.now) c.args.len c.args.s).first a.label) (looked (goal.at.returns-in-Absent c).After-child_within _ c.in-Absent.is)))
+    ((looked (goal.at.returns-in-None c).After-child_within _ c.in-None.is)))

@@ -1,6 +1,5 @@
 use mathlib.Core.Path.{sym, ap, ◌∙◌}
 use native.Mathlib.Omega.{arith}
-use Rattle.walks.specs.Stands.{child_of}
 use Rattle.walks.proofs.Laws.Siblings.{among-start, among-here, among-past, among-end}
 use Rattle.walks.proofs.siblings.child_among.Goals as goal
 
@@ -23,8 +22,7 @@ returns-then-entry_matches c =
     let l = c.loop-at in
     let high = c.smaller-high.result in
     sym
-    (ap child_of
-    (l.invariant.2
+    ((l.invariant.2
     ∙ among-here a.labels.now a.node a.label l.at high l.invariant.0 l.invariant.1 (omega arith) (omega (arith, c.smaller-high.ensures))
     (sym c.entry_matches.ensures ∙ c.if-entry_matches.true)))
 
@@ -44,4 +42,4 @@ pub returns : goal.returns
 returns c =
     let a = c.args in
     let l = c.loop-at in
-    sym (ap child_of (l.invariant.2 ∙ among-end a.labels.now a.node a.label l.at c.smaller-high.result (omega arith)))
+    sym ((l.invariant.2 ∙ among-end a.labels.now a.node a.label l.at c.smaller-high.result (omega arith)))

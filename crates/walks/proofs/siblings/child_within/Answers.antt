@@ -3,7 +3,6 @@ use mathlib.Core.Path.{◌≡◌, sym, ap, ◌∙◌}
 use Prim.Native.Nat.{◌+◌, ◌-◌}
 use native.Mathlib.Omega.{arith}
 use Rattle.walks.specs.Rule.{lowest_by}
-use Rattle.walks.specs.Stands.{child_of}
 use Rattle.walks.proofs.Laws.Siblings.{among-start, among-here, among-past, among-end}
 use Rattle.walks.proofs.siblings.child_within.Goals.{After-larger-low}
 use Rattle.walks.proofs.siblings.child_within.Goals as goal
@@ -20,14 +19,13 @@ counted c =
 pub returns-then-end-low : goal.returns-then-end-low
 returns-then-end-low c =
     let a = c.args in
-    sym (ap child_of (counted (goal.at.returns-then-end-low c).After-larger-low ∙ among-end a.labels.now a.node a.label c.larger-low.result c.smaller-end.result (omega arith)))
+    sym ((counted (goal.at.returns-then-end-low c).After-larger-low ∙ among-end a.labels.now a.node a.label c.larger-low.result c.smaller-end.result (omega arith)))
 
 pub returns-then-entry_matches : goal.returns-then-entry_matches
 returns-then-entry_matches c =
     let a = c.args in
     sym
-    (ap child_of
-    (counted (goal.at.returns-then-entry_matches c).After-larger-low
+    ((counted (goal.at.returns-then-entry_matches c).After-larger-low
     ∙ among-here a.labels.now a.node a.label c.larger-low.result c.smaller-end.result (omega (arith, c.larger-low.ensures)) (omega (arith, c.larger-low.ensures, c.if-node-eq0.false)) (omega (arith, c.if-end-low.false)) (omega (arith, c.smaller-end.ensures))
     (sym c.entry_matches.ensures ∙ c.if-entry_matches.true)))
 
@@ -36,7 +34,6 @@ returns c =
     let a = c.args in
     c.child_among-2.ensures
     ∙ sym
-    (ap child_of
-    (counted (goal.at.returns c).After-larger-low
+    ((counted (goal.at.returns c).After-larger-low
     ∙ among-past a.labels.now a.node a.label c.larger-low.result c.smaller-end.result (omega (arith, c.larger-low.ensures)) (omega (arith, c.larger-low.ensures, c.if-node-eq0.false)) (omega (arith, c.if-end-low.false)) (omega (arith, c.smaller-end.ensures))
     (sym c.entry_matches.ensures ∙ c.if-entry_matches.false)))

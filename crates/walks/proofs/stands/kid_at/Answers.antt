@@ -1,9 +1,9 @@
 -- `walks::stands::kid_at` meets its contract: the 0-th zero is missing, so a number below the node's own ends at the end. Assumes nothing.
+use Rattle.std.specs.Prelude.{unwrap_or}
 use mathlib.Core.Path.{◌≡◌, sym}
 use Prim.Native.Nat.{◌-◌}
 use Rattle.keymap.specs.Bits.{bit}
 use Rattle.louds.specs.Select.{zero_from}
-use Rattle.louds.specs.Nodes.{or_end}
 use Rattle.walks.specs.Stands.{kid_from}
 use Rattle.walks.proofs.Laws.Stands.{kid_from-below}
 use Rattle.walks.proofs.stands.kid_at.Goals as goal
@@ -19,5 +19,5 @@ returns c =
     let a = c.args in
     let spot = c.zero_from-spot.ensures in
     let found = c.or_end.ensures in
-    let zero : c.or_end.result ≡ or_end a.len (zero_from (bit a.words.now) a.len a.next (a.m - a.k)) = cc in
+    let zero : c.or_end.result ≡ unwrap_or (zero_from (bit a.words.now) a.len a.next (a.m - a.k)) a.len = cc in
     λ x. record { node = a.m; zero = zero x }

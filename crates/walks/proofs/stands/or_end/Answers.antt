@@ -1,12 +1,10 @@
 -- `walks::stands::or_end` meets its contract: the two arms are the definition's. Assumes nothing.
+use Rattle.std.specs.Prelude.{unwrap_or, Option}
 use mathlib.Core.Path.{sym, ap}
-use Rattle.louds.specs.Nodes.{or_end}
 use Rattle.walks.proofs.stands.or_end.Goals as goal
 
-pub returns-in-At : goal.returns-in-At
-unfolding or_end
-returns-in-At c = sym (ap (or_end c.args.len) c.in-At.is)
+pub returns-in-Some : goal.returns-in-Some
+returns-in-Some c = sym (ap (λ (o : Option ℕ). unwrap_or o c.args.len) c.in-Some.is)
 
-pub returns-in-Missing : goal.returns-in-Missing
-unfolding or_end
-returns-in-Missing c = sym (ap (or_end c.args.len) c.in-Missing.is)
+pub returns-in-None : goal.returns-in-None
+returns-in-None c = sym (ap (λ (o : Option ℕ). unwrap_or o c.args.len) c.in-None.is)

@@ -13,7 +13,8 @@
 -- Assumes nothing.
 use Rattle.std.specs.Prelude.{ℕ, suc, ◌≡◌, cond, List, [], ◌∷◌, ◌++◌, length, ltb, Option, None, Some}
 use Rattle.keymap.specs.Map.{Entry, Map, insert, insert_all}
-use Rattle.keymap.specs.Refusals.{Refusal, refuses}
+use Rattle.keymap.specs.Refusals.{refuses}
+use Rattle.keymap.specs.declared.refusals.Refusal.{Refusal}
 use Rattle.pool.specs.Answers.{accepted}
 use Rattle.pool.specs.History.{PoolCall, map_says}
 use Rattle.lines.specs.TabLine.{tab_entry}

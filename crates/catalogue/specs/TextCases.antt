@@ -8,7 +8,8 @@
 use Rattle.std.specs.Prelude.{ℕ, ◌≤◌, ◌<◌, ◌≡◌, List, [], ◌∷◌, ◌++◌, length, None, Some}
 use Rattle.keymap.specs.Map.{Entry, Map, insert, insert_all}
 use Rattle.keymap.specs.Prefixes.{prefixes}
-use Rattle.keymap.specs.Refusals.{Refusal, refusal_number}
+use Rattle.keymap.specs.Refusals.{refusal_number}
+use Rattle.keymap.specs.declared.refusals.Refusal.{Refusal}
 use Rattle.lines.specs.TabLine.{tab_entry}
 use Rattle.lines.specs.Text.{entry_lines}
 use Rattle.catalogue.specs.Limits.{file_limit}

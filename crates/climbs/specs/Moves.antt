@@ -22,39 +22,39 @@ unfoldable pub leads : ℕ → ℕ → ℕ → Bool
 leads len m p = ltb p len && (leb 1 m && (leb m (p + 1) && ltb (p + 1 - m) m))
 
 -- the first child of node m, whose zero is at a place
-abbrev pub behind_zero : (ℕ → ℕ) → ℕ → ℕ → ℕ → (Option ℕ) → (Option Perch)
+abbrev pub behind_zero : (ℕ → ℕ) → ℕ → ℕ → ℕ → Option ℕ → Option Perch
 behind_zero b len last m None = None
 behind_zero b len last m (Some z) =
     cond (one_behind b len z && counts_to last m (z + 2 - m)) (Some (record { node = z + 2 - m; one = z + 1 })) None
 
-unfoldable pub first_from : (ℕ → ℕ) → ℕ → ℕ → Perch → (Option Perch)
+unfoldable pub first_from : (ℕ → ℕ) → ℕ → ℕ → Perch → Option Perch
 first_from b len last at =
     cond (leads len at.node at.one)
     (behind_zero b len last at.node (zero_from b len at.one (at.node - (at.one + 1 - at.node)))) None
 
-unfoldable pub beside_from : (ℕ → ℕ) → ℕ → ℕ → Perch → (Option Perch)
+unfoldable pub beside_from : (ℕ → ℕ) → ℕ → ℕ → Perch → Option Perch
 beside_from b len last at =
     cond (ltb at.node last && one_behind b len at.one)
     (Some (record { node = at.node + 1; one = at.one + 1 })) None
 
-abbrev pub or_moved : (Option Perch) → (Option Perch) → (Option Perch)
+abbrev pub or_moved : Option Perch → Option Perch → Option Perch
 or_moved (Some p) r = Some p
 or_moved None r = r
 
 -- from where a climb is, up to the top; the last number bounds the steps
-unfoldable pub climbed_rise : (ℕ → ℕ) → ℕ → ℕ → ℕ → ℕ → (Option Perch) → (Option Perch)
+unfoldable pub climbed_rise : (ℕ → ℕ) → ℕ → ℕ → ℕ → ℕ → Option Perch → Option Perch
 climbed_rise b len last top zero at = None
 climbed_rise b len last top (suc left) None = None
 climbed_rise b len last top (suc left) (Some at) =
     cond (eqb at.node top) None
     (or_moved (beside_from b len last at) (climbed_rise b len last top left (parent_from b len at)))
 
-unfoldable pub climb_from : (ℕ → ℕ) → ℕ → ℕ → ℕ → Perch → (Option Perch)
+unfoldable pub climb_from : (ℕ → ℕ) → ℕ → ℕ → ℕ → Perch → Option Perch
 climb_from b len last top at = climbed_rise b len last top (suc at.node) (Some at)
 
-abbrev pub advance_from : (ℕ → ℕ) → ℕ → ℕ → ℕ → Perch → (Option Perch)
+abbrev pub advance_from : (ℕ → ℕ) → ℕ → ℕ → ℕ → Perch → Option Perch
 advance_from b len last top at = or_moved (first_from b len last at) (climb_from b len last top at)
 
-abbrev pub moved_at : (ℕ → ℕ) → ℕ → Option ℕ → (Option Perch)
+abbrev pub moved_at : (ℕ → ℕ) → ℕ → Option ℕ → Option Perch
 moved_at b len None = None
 moved_at b len (Some k) = Some (perch_at b len k)

@@ -39,7 +39,7 @@ unfoldable pub one_behind : (ℕ → ℕ) → ℕ → ℕ → Bool
 one_behind b len p = ltb (p + 1) len && eqb (b (p + 1)) 1
 
 -- the ones of siblings stand together, and their numbers run on
-abbrev pub beside_of : (ℕ → ℕ) → ℕ → ℕ → ℕ → (Option ℕ) → Option ℕ
+abbrev pub beside_of : (ℕ → ℕ) → ℕ → ℕ → ℕ → Option ℕ → Option ℕ
 beside_of b len last k None = None
 beside_of b len last k (Some p) = cond (ltb k last && one_behind b len p) (Some (k + 1)) None
 

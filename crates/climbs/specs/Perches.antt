@@ -13,7 +13,7 @@ use Rattle.louds.specs.Select.{one_at, one_back}
 use Rattle.louds.specs.Nodes.{parent_of}
 use Rattle.climbs.specs.declared.perches.Perch.{Perch}
 
-abbrev pub below : ℕ → (Option ℕ) → Option ℕ
+abbrev pub below : ℕ → Option ℕ → Option ℕ
 below m None = None
 below m (Some k) = cond (leb 1 k && ltb k m) (Some k) None
 
@@ -37,12 +37,12 @@ perch_at b len m = record { node = m; one = unwrap_or (one_at b len m) len }
 unfoldable pub has_parent : ℕ → ℕ → ℕ → Bool
 has_parent len m p = ltb p len && (leb 1 m && (leb m p && ltb (p - (m - 1)) m))
 
-unfoldable pub parent_from : (ℕ → ℕ) → ℕ → Perch → (Option Perch)
+unfoldable pub parent_from : (ℕ → ℕ) → ℕ → Perch → Option Perch
 parent_from b len at =
     let up = at.one - (at.node - 1) in
     cond (has_parent len at.node at.one)
     (Some (record { node = up; one = unwrap_or (one_back b at.one (at.node - up)) at.one })) None
 
-abbrev pub rise_at : (ℕ → ℕ) → ℕ → Option ℕ → (Option Perch)
+abbrev pub rise_at : (ℕ → ℕ) → ℕ → Option ℕ → Option Perch
 rise_at b len None = None
 rise_at b len (Some k) = Some (perch_at b len k)

@@ -9,7 +9,8 @@
 use Rattle.std.specs.Prelude.{ℕ, zero, suc, ◌+◌, ◌-◌, Bool, cond, ◌&&◌, List, [], ◌∷◌, ◌++◌, length, get_or, drop, set, leb, Option, None, Some}
 use Rattle.keymap.specs.Key.{Key}
 use Rattle.keymap.specs.Label.{label_in}
-use Rattle.keymap.specs.Refusals.{refuses, NotAnImage, BadPlace, KeyRoom}
+use Rattle.keymap.specs.Refusals.{refuses}
+use Rattle.keymap.specs.declared.refusals.Refusal.TheVariants.{NotAnImage, BadPlace, KeyRoom}
 use Rattle.climbs.specs.Perches.{parent_by}
 use Rattle.climbs.specs.declared.answers.Spelled.{Spelled}
 use Rattle.climbs.specs.declared.answers.Spelled.TheVariants as spelled

@@ -64,12 +64,12 @@ abbrev pub stand_near : (ℕ → ℕ) → ℕ → ℕ → ℕ → ℕ → Stand
 stand_near b len node kept left =
     record { node = node; zero = unwrap_or (zero_from b len ((kept - 1) * word_bits) left) len }
 
-abbrev pub went_on : List ℕ → (ℕ → ℕ) → ℕ → Key → Went → (Option Stand)
+abbrev pub went_on : List ℕ → (ℕ → ℕ) → ℕ → Key → Went → Option Stand
 went_on ls b len q Lost = None
 went_on ls b len q (Gone node steps kept left) =
     down_along ls b len (drop steps q) (Some (stand_near b len node kept left))
 
-abbrev pub ended_at : (ℕ → ℕ) → ℕ → Ended → (Option Stand)
+abbrev pub ended_at : (ℕ → ℕ) → ℕ → Ended → Option Stand
 ended_at b len (Near node kept left) = Some (stand_near b len node kept left)
 ended_at b len (At s) = Some s
 ended_at b len Nowhere = None

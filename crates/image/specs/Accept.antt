@@ -30,7 +30,7 @@ node_entry i m = get_or i.labels (m - 2) 0
 abbrev pub node_value : Image → ℕ → ℕ
 node_value i m = get_or i.values (m - 2) 0
 
-abbrev pub parent_in : Image → ℕ → (Option ℕ)
+abbrev pub parent_in : Image → ℕ → Option ℕ
 parent_in i m = parent_of (bit i.words) (bits_for (entries i)) m
 
 abbrev pub kids_in : Image → ℕ → Option Children

@@ -11,7 +11,8 @@
 use Rattle.std.specs.Prelude.{ℕ, Bool, true, false, cond, List, [], ◌∷◌, length, leb, Option, None, Some}
 use Rattle.keymap.specs.Key.{Key}
 use Rattle.keymap.specs.Buffers.{over}
-use Rattle.keymap.specs.Refusals.{refuses, KeyRoom}
+use Rattle.keymap.specs.Refusals.{refuses}
+use Rattle.keymap.specs.declared.refusals.Refusal.TheVariants.{KeyRoom}
 
 abbrev pub given : Option ℕ → Bool
 given None = false

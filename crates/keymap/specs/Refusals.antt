@@ -1,8 +1,8 @@
 -- The numbered refusals (01), one table for every crate: which call gives which is in its own crate.
 -- Assumes nothing.
 use Rattle.std.specs.Prelude.{ℕ, List, [], ◌∷◌}
-pub use Rattle.keymap.specs.declared.refusals.Refusal.{Refusal}
-pub use Rattle.keymap.specs.declared.refusals.Refusal.TheVariants.{PoolTooSmall, NotAPool, EmptyKey, NoRoom, OutTooSmall, NotAnImage, BadPlace, KeyRoom, BadLine}
+use Rattle.keymap.specs.declared.refusals.Refusal.{Refusal}
+use Rattle.keymap.specs.declared.refusals.Refusal.TheVariants.{PoolTooSmall, NotAPool, EmptyKey, NoRoom, OutTooSmall, NotAnImage, BadPlace, KeyRoom, BadLine}
 
 abbrev pub refusal_number : Refusal → ℕ
 refusal_number PoolTooSmall = 1

@@ -2,6 +2,6 @@
 // their calls answer. But for these it is theory: the definitions stand in specs/, their laws in proofs/Laws/.
 #![tactic(auto)]
 
-mod refusals;
+pub mod refusals;
 
 pub use refusals::Refusal;

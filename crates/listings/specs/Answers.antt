@@ -5,7 +5,8 @@
 -- nodes are numbered from 1, and a step that gives none tells node 0.
 -- Assumes nothing.
 use Rattle.std.specs.Prelude.{ℕ, List, [], ◌∷◌}
-use Rattle.keymap.specs.Refusals.{refuses, NotAnImage, BadPlace}
+use Rattle.keymap.specs.Refusals.{refuses}
+use Rattle.keymap.specs.declared.refusals.Refusal.TheVariants.{NotAnImage, BadPlace}
 use Rattle.listings.specs.declared.answers.Kind.{Kind}
 use Rattle.listings.specs.declared.answers.Kind.TheVariants as kinds
 use Rattle.listings.specs.declared.answers.Cursor.{Cursor}

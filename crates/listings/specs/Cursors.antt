@@ -15,7 +15,8 @@ use mathlib.Core.List.{List, ◌∷◌}
 use Rattle.keymap.specs.Members.{head_of}
 use Rattle.keymap.specs.Key.{Key}
 use Rattle.keymap.specs.Answers.{given}
-use Rattle.keymap.specs.Refusals.{refuses, BadPlace}
+use Rattle.keymap.specs.Refusals.{refuses}
+use Rattle.keymap.specs.declared.refusals.Refusal.TheVariants.{BadPlace}
 use Rattle.keymap.specs.Map.{Entry, Map, lookup}
 use Rattle.keymap.specs.Queries.{nonempty, beginning, longer, least_above}
 use Rattle.keymap.specs.Image.{Image}

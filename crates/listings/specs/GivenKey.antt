@@ -9,7 +9,8 @@
 use Rattle.std.specs.Prelude.{ℕ, zero, suc, cond, List, length, drop, Option, None, Some}
 use Rattle.keymap.specs.Key.{Key}
 use Rattle.keymap.specs.Answers.{says_written, written_key}
-use Rattle.keymap.specs.Refusals.{refuses, BadPlace}
+use Rattle.keymap.specs.Refusals.{refuses}
+use Rattle.keymap.specs.declared.refusals.Refusal.TheVariants.{BadPlace}
 use Rattle.keymap.specs.Map.{Map}
 use Rattle.keymap.specs.Image.{Image}
 use Rattle.keymap.specs.Paths.{path_of}

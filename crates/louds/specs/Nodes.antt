@@ -15,16 +15,16 @@ abbrev pub Run : ℕ → ℕ → Option Children
 Run first count = Some (record { first = first; count = count })
 
 -- the ones between a zero and a stop; the first is one more than the ones before them
-unfoldable pub run_from : (ℕ → ℕ) → (Option ℕ) → ℕ → Option Children
+unfoldable pub run_from : (ℕ → ℕ) → Option ℕ → ℕ → Option Children
 run_from b None stop = None
 run_from b (Some p) stop = Run (ones_before b p + 1) (ones_before b stop - ones_before b p)
 
 unfoldable pub children_of : (ℕ → ℕ) → ℕ → ℕ → Option Children
 children_of b len k = run_from b (zero_at b len k) (unwrap_or (zero_at b len (k + 1)) len)
 
-unfoldable pub up_from : (ℕ → ℕ) → (Option ℕ) → (Option ℕ)
+unfoldable pub up_from : (ℕ → ℕ) → Option ℕ → Option ℕ
 up_from b None = None
 up_from b (Some p) = Some (zeros_before b p)
 
-unfoldable pub parent_of : (ℕ → ℕ) → ℕ → ℕ → (Option ℕ)
+unfoldable pub parent_of : (ℕ → ℕ) → ℕ → ℕ → Option ℕ
 parent_of b len m = up_from b (one_at b len m)

@@ -15,7 +15,7 @@ use Rattle.keymap.specs.Bits.{sum_below}
 use Rattle.louds.specs.Rank.{gap}
 
 -- it is one of the first i where these hold k marks; else it is i, if i makes them k
-unfoldable pub kth : (ℕ → ℕ) → ℕ → ℕ → (Option ℕ)
+unfoldable pub kth : (ℕ → ℕ) → ℕ → ℕ → Option ℕ
 kth m zero k = None
 kth m (suc i) k = cond (nat_le k (sum_below m i)) (kth m i k) (cond (nat_le k (sum_below m (suc i))) (Some i) None)
 
@@ -29,18 +29,18 @@ marks b zero = gap b
 marks b (suc zero) = b
 marks b (suc (suc v)) = λ i. 0
 
-abbrev pub one_at : (ℕ → ℕ) → ℕ → ℕ → (Option ℕ)
+abbrev pub one_at : (ℕ → ℕ) → ℕ → ℕ → Option ℕ
 one_at b len m = kth b len m
 
 -- counted up, the k-th from the end
-abbrev pub one_back : (ℕ → ℕ) → ℕ → ℕ → (Option ℕ)
+abbrev pub one_back : (ℕ → ℕ) → ℕ → ℕ → Option ℕ
 one_back b from k = kth b from (sum_below b from + 1 - k)
 
-abbrev pub zero_at : (ℕ → ℕ) → ℕ → ℕ → (Option ℕ)
+abbrev pub zero_at : (ℕ → ℕ) → ℕ → ℕ → Option ℕ
 zero_at b len k = kth (gap b) len k
 
-abbrev pub zero_from : (ℕ → ℕ) → ℕ → ℕ → ℕ → (Option ℕ)
+abbrev pub zero_from : (ℕ → ℕ) → ℕ → ℕ → ℕ → Option ℕ
 zero_from b len from k = kth (onward from (gap b)) len k
 
-abbrev pub bit_from : (ℕ → ℕ) → ℕ → ℕ → ℕ → ℕ → (Option ℕ)
+abbrev pub bit_from : (ℕ → ℕ) → ℕ → ℕ → ℕ → ℕ → Option ℕ
 bit_from b len v from k = kth (onward from (marks b v)) len k

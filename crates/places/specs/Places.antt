@@ -4,7 +4,8 @@
 -- `prefix` then 8 of a shorter buffer.
 -- Assumes nothing.
 use Rattle.std.specs.Prelude.{ℕ, cond, List, [], ◌∷◌, length}
-use Rattle.keymap.specs.Refusals.{refuses, NotAnImage, BadPlace}
+use Rattle.keymap.specs.Refusals.{refuses}
+use Rattle.keymap.specs.declared.refusals.Refusal.TheVariants.{NotAnImage, BadPlace}
 use Rattle.keymap.specs.Map.{lookup}
 use Rattle.keymap.specs.Image.{Image}
 use Rattle.keymap.specs.Paths.{is_node, path_of}

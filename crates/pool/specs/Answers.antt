@@ -1,7 +1,8 @@
 -- The answers in 01's numbers: done is 0, a count n is 0 and n, a refusal is its number.
 -- Assumes nothing.
 use Rattle.std.specs.Prelude.{ℕ, Bool, false, List, [], ◌∷◌, eqb}
-use Rattle.keymap.specs.Refusals.{Refusal, refuses}
+use Rattle.keymap.specs.Refusals.{refuses}
+use Rattle.keymap.specs.declared.refusals.Refusal.{Refusal}
 use Rattle.pool.specs.declared.answers.Cleared.{Cleared}
 use Rattle.pool.specs.declared.answers.Counted.{Counted}
 use Rattle.pool.specs.declared.answers.Pushed.{Pushed}

@@ -14,7 +14,8 @@ use Rattle.keymap.specs.Limits.{value_limit}
 use Rattle.keymap.specs.Key.{Key, Bytes}
 use Rattle.keymap.specs.Map.{Map, insert}
 use Rattle.keymap.specs.Prefixes.{prefixes}
-use Rattle.keymap.specs.Refusals.{Refusal, refuses}
+use Rattle.keymap.specs.Refusals.{refuses}
+use Rattle.keymap.specs.declared.refusals.Refusal.{Refusal}
 use Rattle.records.specs.Words.{Pool}
 use Rattle.pool.specs.Answers.{accepted}
 use Rattle.pool.specs.Reset.{reset_says, reset_pool}

@@ -1,7 +1,8 @@
 -- Reset: "zeroes record 0 of any pool of 5 words or more" (01).
 -- Assumes nothing.
 use Rattle.std.specs.Prelude.{ℕ, cond, List, [], ◌∷◌, length, ltb}
-use Rattle.keymap.specs.Refusals.{Refusal, refuses}
+use Rattle.keymap.specs.Refusals.{refuses}
+use Rattle.keymap.specs.declared.refusals.Refusal.{Refusal}
 use Rattle.records.specs.Words.{Pool, record_words}
 use Rattle.pool.specs.Answers.{accepted}
 use Rattle.pool.specs.Writing.{filled}

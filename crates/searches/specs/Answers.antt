@@ -2,7 +2,8 @@
 -- on with what it tells.
 -- Assumes nothing.
 use Rattle.std.specs.Prelude.{ℕ, List, [], ◌∷◌}
-use Rattle.keymap.specs.Refusals.{refuses, NotAnImage, KeyRoom}
+use Rattle.keymap.specs.Refusals.{refuses}
+use Rattle.keymap.specs.declared.refusals.Refusal.TheVariants.{NotAnImage, KeyRoom}
 use Rattle.searches.specs.declared.answers.Looked.{Looked}
 use Rattle.searches.specs.declared.answers.Looked.TheVariants as looked
 use Rattle.searches.specs.declared.answers.Prefixed.{Prefixed}

@@ -3,7 +3,8 @@
 -- Assumes nothing.
 use Rattle.std.specs.Prelude.{ℕ, cond, List}
 use Rattle.keymap.specs.Key.{Key}
-use Rattle.keymap.specs.Refusals.{refuses, NotAnImage}
+use Rattle.keymap.specs.Refusals.{refuses}
+use Rattle.keymap.specs.declared.refusals.Refusal.TheVariants.{NotAnImage}
 use Rattle.keymap.specs.Answers.{says_value}
 use Rattle.keymap.specs.Image.{Image}
 use Rattle.image.specs.AcceptTest.{lengths_fit}

@@ -16,7 +16,8 @@ use borrow.Author.Tests.{ne_eqb}
 use Rattle.keymap.specs.Key.{Key}
 use Rattle.keymap.specs.Map.{Entry, Map, lookup}
 use Rattle.keymap.specs.Queries.{longer, is_prefix_in, longest_prefix_in, common_prefix_in}
-use Rattle.keymap.specs.Refusals.{Refusal, refuses}
+use Rattle.keymap.specs.Refusals.{refuses}
+use Rattle.keymap.specs.declared.refusals.Refusal.{Refusal}
 use Rattle.keymap.specs.Image.{Image}
 use Rattle.keymap.specs.Paths.{is_node, path_of, node_of, is_path}
 use Rattle.keymap.specs.Decode.{image_map}

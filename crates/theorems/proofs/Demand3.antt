@@ -16,7 +16,8 @@ use Rattle.keymap.specs.Members.{In}
 use Rattle.keymap.specs.Key.{Key}
 use Rattle.keymap.specs.Map.{Map, Catalogue, insert}
 use Rattle.keymap.specs.Prefixes.{prefixes}
-use Rattle.keymap.specs.Refusals.{Refusal, refuses}
+use Rattle.keymap.specs.Refusals.{refuses}
+use Rattle.keymap.specs.declared.refusals.Refusal.{Refusal}
 use Rattle.keymap.specs.Image.{image}
 use Rattle.keymap.specs.Paths.{path_of}
 use Rattle.keymap.proofs.Laws.Prefixes.{prefixes-iff, prefixes-distinct}

@@ -17,7 +17,8 @@ use lib.Dec.{ltb}
 use borrow.Author.Tests.{ltb-true, lt-ltb, le-ltb}
 use Rattle.keymap.specs.Buffers.{over}
 use Rattle.keymap.specs.Map.{Entry}
-use Rattle.keymap.specs.Refusals.{Refusal, refuses}
+use Rattle.keymap.specs.Refusals.{refuses}
+use Rattle.keymap.specs.declared.refusals.Refusal.{Refusal}
 use Rattle.lines.specs.Decimal.{value_after, is_decimal, number_in}
 use Rattle.lines.specs.TabLine.{entry_says, entry_key, tab_entry, tab_line_says, tab_line_key}
 use Rattle.lines.specs.Writing.{tab_line, tab_text, Plain, write_line_says, write_line_out}

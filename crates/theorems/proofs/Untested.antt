@@ -8,7 +8,8 @@ use mathlib.Core.List.{List}
 use Rattle.std.specs.Prelude.{Option, None, Some}
 use lib.ListN.{get_or}
 use Rattle.keymap.specs.Key.{Key}
-use Rattle.keymap.specs.Refusals.{refuses, NotAnImage}
+use Rattle.keymap.specs.Refusals.{refuses}
+use Rattle.keymap.specs.declared.refusals.Refusal.TheVariants.{NotAnImage}
 use Rattle.keymap.specs.Answers.{says_value}
 use Rattle.keymap.specs.Image.{Image}
 use Rattle.image.specs.AcceptTest.{lengths_fit}

@@ -13,7 +13,8 @@ use Rattle.std.specs.Prelude.{ℕ, ◌≤◌, ◌<◌, ◌≡◌, ◌↔◌, ◌
 use Rattle.keymap.specs.Limits.{value_limit, most_records}
 use Rattle.keymap.specs.Members.{In}
 use Rattle.keymap.specs.Key.{Key, Below, PrefixOf}
-use Rattle.keymap.specs.Refusals.{Refusal, refuses}
+use Rattle.keymap.specs.Refusals.{refuses}
+use Rattle.keymap.specs.declared.refusals.Refusal.{Refusal}
 use Rattle.keymap.specs.Map.{Entry, Map, Rising, Catalogue, insert, lookup}
 use Rattle.keymap.specs.Queries.{nonempty, SomeBegins, is_prefix_in, LongestCommon, longest_prefix_in, ShortestWithin}
 use Rattle.keymap.specs.Queries.{common_prefix_in, NextAfter, least_above}

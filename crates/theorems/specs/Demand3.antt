@@ -7,7 +7,8 @@ use Rattle.keymap.specs.Key.{Key}
 use Rattle.keymap.specs.Map.{Catalogue, insert}
 use Rattle.keymap.specs.Queries.{SomeBegins}
 use Rattle.keymap.specs.Prefixes.{prefixes}
-use Rattle.keymap.specs.Refusals.{Refusal, refuses}
+use Rattle.keymap.specs.Refusals.{refuses}
+use Rattle.keymap.specs.declared.refusals.Refusal.{Refusal}
 use Rattle.keymap.specs.Image.{image}
 use Rattle.keymap.specs.Paths.{path_of}
 use Rattle.records.specs.Words.{Pool, record_words, InUse, capacity}

@@ -10,7 +10,8 @@
 -- Assumes nothing.
 use Rattle.std.specs.Prelude.{ℕ, ◌-◌, ◌≤◌, ◌<◌, ◌≡◌, true, ◌↔◌, List, [], ◌∷◌, ◌++◌, map, length, take, drop, Some}
 use Rattle.keymap.specs.Limits.{value_limit}
-use Rattle.keymap.specs.Refusals.{Refusal, refuses}
+use Rattle.keymap.specs.Refusals.{refuses}
+use Rattle.keymap.specs.declared.refusals.Refusal.{Refusal}
 use Rattle.keymap.specs.Map.{Entry}
 use Rattle.lines.specs.Decimal.{decimal, value_after, is_decimal}
 use Rattle.lines.specs.TabLine.{tab_line_says, tab_line_key}

@@ -7,7 +7,8 @@
 use Rattle.std.specs.Prelude.{◌≡◌, ◌↔◌, ◌≤◌, length}
 use Rattle.keymap.specs.Key.{Key}
 use Rattle.keymap.specs.Limits.{most_records}
-use Rattle.keymap.specs.Refusals.{refuses, NotAnImage}
+use Rattle.keymap.specs.Refusals.{refuses}
+use Rattle.keymap.specs.declared.refusals.Refusal.TheVariants.{NotAnImage}
 use Rattle.keymap.specs.Bits.{words_for}
 use Rattle.keymap.specs.Image.{Image, bits_for}
 use Rattle.image.specs.Accept.{entries, Accepted, LentSlices}

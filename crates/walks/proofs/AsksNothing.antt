@@ -7,8 +7,6 @@ use Rattle.walks.specs.contracts.entries.counts_to
 use Rattle.walks.proofs.entries.counts_to.Reads as counts-to-reads
 use Rattle.walks.specs.contracts.entries.value_at
 use Rattle.walks.proofs.entries.value_at.Reads as value-at-reads
-use Rattle.walks.specs.contracts.stands.or_end
-use Rattle.walks.proofs.stands.or_end.Reads as or-end-reads
 use Rattle.walks.specs.contracts.stands.stand_at
 use Rattle.walks.proofs.stands.stand_at.Reads as stand-at-reads
 use Rattle.walks.specs.contracts.stands.kids
@@ -21,10 +19,6 @@ use Rattle.walks.specs.contracts.glide.glide
 use Rattle.walks.proofs.glide.glide.Reads as glide-reads
 use Rattle.walks.specs.contracts.entries.entry_matches
 use Rattle.walks.proofs.entries.entry_matches.Reads as entry-matches-reads
-use Rattle.walks.specs.contracts.siblings.smaller
-use Rattle.walks.proofs.siblings.smaller.Reads as smaller-reads
-use Rattle.walks.specs.contracts.siblings.larger
-use Rattle.walks.proofs.siblings.larger.Reads as larger-reads
 use Rattle.walks.specs.contracts.siblings.child_within
 use Rattle.walks.proofs.siblings.child_within.Reads as child-within-reads
 
@@ -36,9 +30,6 @@ counts-to-asks-nothing κs a = tt
 
 pub value-at-asks-nothing : (κs : Lfts 2) (a : ArgsD value_at.signature κs) → value-at-reads.Pre κs a
 value-at-asks-nothing κs a = tt
-
-pub or-end-asks-nothing : (κs : Lfts 0) (a : ArgsD or_end.signature κs) → or-end-reads.Pre κs a
-or-end-asks-nothing κs a = tt
 
 pub stand-at-asks-nothing : (κs : Lfts 1) (a : ArgsD stand_at.signature κs) → stand-at-reads.Pre κs a
 stand-at-asks-nothing κs a = tt
@@ -57,12 +48,6 @@ glide-asks-nothing κs a = tt
 
 pub entry-matches-asks-nothing : (κs : Lfts 0) (a : ArgsD entry_matches.signature κs) → entry-matches-reads.Pre κs a
 entry-matches-asks-nothing κs a = tt
-
-pub smaller-asks-nothing : (κs : Lfts 0) (a : ArgsD smaller.signature κs) → smaller-reads.Pre κs a
-smaller-asks-nothing κs a = tt
-
-pub larger-asks-nothing : (κs : Lfts 0) (a : ArgsD larger.signature κs) → larger-reads.Pre κs a
-larger-asks-nothing κs a = tt
 
 pub child-within-asks-nothing : (κs : Lfts 1) (a : ArgsD child_within.signature κs) → child-within-reads.Pre κs a
 child-within-asks-nothing κs a = tt

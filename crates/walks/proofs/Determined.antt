@@ -14,9 +14,6 @@ use Rattle.walks.proofs.entries.counts_to.Reads as counts-to-reads
 use Rattle.walks.specs.contracts.entries.value_at
 use Rattle.walks.proofs.entries.value_at.Kinds as value-at-kinds
 use Rattle.walks.proofs.entries.value_at.Reads as value-at-reads
-use Rattle.walks.specs.contracts.stands.or_end
-use Rattle.walks.proofs.stands.or_end.Kinds as or-end-kinds
-use Rattle.walks.proofs.stands.or_end.Reads as or-end-reads
 use Rattle.walks.specs.contracts.stands.stand_at
 use Rattle.walks.proofs.stands.stand_at.Kinds as stand-at-kinds
 use Rattle.walks.proofs.stands.stand_at.Reads as stand-at-reads
@@ -35,12 +32,6 @@ use Rattle.walks.proofs.glide.glide.Reads as glide-reads
 use Rattle.walks.specs.contracts.entries.entry_matches
 use Rattle.walks.proofs.entries.entry_matches.Kinds as entry-matches-kinds
 use Rattle.walks.proofs.entries.entry_matches.Reads as entry-matches-reads
-use Rattle.walks.specs.contracts.siblings.smaller
-use Rattle.walks.proofs.siblings.smaller.Kinds as smaller-kinds
-use Rattle.walks.proofs.siblings.smaller.Reads as smaller-reads
-use Rattle.walks.specs.contracts.siblings.larger
-use Rattle.walks.proofs.siblings.larger.Kinds as larger-kinds
-use Rattle.walks.proofs.siblings.larger.Reads as larger-reads
 use Rattle.walks.specs.contracts.siblings.child_within
 use Rattle.walks.proofs.siblings.child_within.Kinds as child-within-kinds
 use Rattle.walks.proofs.siblings.child_within.Reads as child-within-reads
@@ -56,10 +47,6 @@ counts-to-determined κs a r₁ r₂ s₁ s₂ p q = p ∙ sym q
 pub value-at-determined : (κs : Lfts 2) (a : ArgsD value_at.signature κs) (r₁ r₂ : ResD value_at.signature κs) (s₁ s₂ : AtExit (ended_of 2 value-at-kinds.ps value-at-kinds.r) κs)
     → value-at-reads.Post κs a r₁ s₁ → value-at-reads.Post κs a r₂ s₂ → r₁ ≡ r₂
 value-at-determined κs a r₁ r₂ s₁ s₂ p q = p ∙ sym q
-
-pub or-end-determined : (κs : Lfts 0) (a : ArgsD or_end.signature κs) (r₁ r₂ : ResD or_end.signature κs) (s₁ s₂ : AtExit (ended_of 0 or-end-kinds.ps or-end-kinds.r) κs)
-    → or-end-reads.Post κs a r₁ s₁ → or-end-reads.Post κs a r₂ s₂ → r₁ ≡ r₂
-or-end-determined κs a r₁ r₂ s₁ s₂ p q = p ∙ sym q
 
 pub stand-at-determined : (κs : Lfts 1) (a : ArgsD stand_at.signature κs) (r₁ r₂ : ResD stand_at.signature κs) (s₁ s₂ : AtExit (ended_of 1 stand-at-kinds.ps stand-at-kinds.r) κs)
     → stand-at-reads.Post κs a r₁ s₁ → stand-at-reads.Post κs a r₂ s₂ → r₁ ≡ r₂
@@ -84,14 +71,6 @@ glide-determined κs a r₁ r₂ s₁ s₂ p q = p ∙ sym q
 pub entry-matches-determined : (κs : Lfts 0) (a : ArgsD entry_matches.signature κs) (r₁ r₂ : ResD entry_matches.signature κs) (s₁ s₂ : AtExit (ended_of 0 entry-matches-kinds.ps entry-matches-kinds.r) κs)
     → entry-matches-reads.Post κs a r₁ s₁ → entry-matches-reads.Post κs a r₂ s₂ → r₁ ≡ r₂
 entry-matches-determined κs a r₁ r₂ s₁ s₂ p q = p ∙ sym q
-
-pub smaller-determined : (κs : Lfts 0) (a : ArgsD smaller.signature κs) (r₁ r₂ : ResD smaller.signature κs) (s₁ s₂ : AtExit (ended_of 0 smaller-kinds.ps smaller-kinds.r) κs)
-    → smaller-reads.Post κs a r₁ s₁ → smaller-reads.Post κs a r₂ s₂ → r₁ ≡ r₂
-smaller-determined κs a r₁ r₂ s₁ s₂ p q = p ∙ sym q
-
-pub larger-determined : (κs : Lfts 0) (a : ArgsD larger.signature κs) (r₁ r₂ : ResD larger.signature κs) (s₁ s₂ : AtExit (ended_of 0 larger-kinds.ps larger-kinds.r) κs)
-    → larger-reads.Post κs a r₁ s₁ → larger-reads.Post κs a r₂ s₂ → r₁ ≡ r₂
-larger-determined κs a r₁ r₂ s₁ s₂ p q = p ∙ sym q
 
 pub child-within-determined : (κs : Lfts 1) (a : ArgsD child_within.signature κs) (r₁ r₂ : ResD child_within.signature κs) (s₁ s₂ : AtExit (ended_of 1 child-within-kinds.ps child-within-kinds.r) κs)
     → child-within-reads.Post κs a r₁ s₁ → child-within-reads.Post κs a r₂ s₂ → r₁ ≡ r₂

@@ -1,8 +1,7 @@
 -- What each public call's contract says, in the definitions of specs/. Each tie is over the contract's own claim, so a contract that cites another definition breaks it.
 -- Assumes nothing.
-use Rattle.std.specs.Prelude.{unwrap_or}
 use mathlib.Core.Path.{◌≡◌}
-use Prim.Native.Nat.{◌+◌, ◌-◌, max, min}
+use Prim.Native.Nat.{◌+◌, ◌-◌}
 use lib.ListN.{length}
 use Rattle.keymap.specs.Contract.{Tells}
 use Rattle.keymap.specs.Bits.{bit}
@@ -15,8 +14,6 @@ use Rattle.walks.proofs.entries.counts_to.Kinds as counts-to-kinds
 use Rattle.walks.proofs.entries.counts_to.Reads as counts-to-reads
 use Rattle.walks.proofs.entries.value_at.Kinds as value-at-kinds
 use Rattle.walks.proofs.entries.value_at.Reads as value-at-reads
-use Rattle.walks.proofs.stands.or_end.Kinds as or-end-kinds
-use Rattle.walks.proofs.stands.or_end.Reads as or-end-reads
 use Rattle.walks.proofs.stands.stand_at.Kinds as stand-at-kinds
 use Rattle.walks.proofs.stands.stand_at.Reads as stand-at-reads
 use Rattle.walks.proofs.stands.kids.Kinds as kids-kinds
@@ -29,10 +26,6 @@ use Rattle.walks.proofs.glide.glide.Kinds as glide-kinds
 use Rattle.walks.proofs.glide.glide.Reads as glide-reads
 use Rattle.walks.proofs.entries.entry_matches.Kinds as entry-matches-kinds
 use Rattle.walks.proofs.entries.entry_matches.Reads as entry-matches-reads
-use Rattle.walks.proofs.siblings.smaller.Kinds as smaller-kinds
-use Rattle.walks.proofs.siblings.smaller.Reads as smaller-reads
-use Rattle.walks.proofs.siblings.larger.Kinds as larger-kinds
-use Rattle.walks.proofs.siblings.larger.Reads as larger-reads
 use Rattle.walks.proofs.siblings.child_within.Kinds as child-within-kinds
 use Rattle.walks.proofs.siblings.child_within.Reads as child-within-reads
 
@@ -44,9 +37,6 @@ counts-to-says κs a r s p = p
 
 pub value-at-says : Tells 2 value-at-kinds.ps value-at-kinds.r value-at-reads.Post (λ κs a r s. r ≡ (value_of_node a.0.now a.1.0.now a.1.1.0))
 value-at-says κs a r s p = p
-
-pub or-end-says : Tells 0 or-end-kinds.ps or-end-kinds.r or-end-reads.Post (λ κs a r s. r ≡ unwrap_or a.0 a.1.0)
-or-end-says κs a r s p = p
 
 pub stand-at-says : Tells 1 stand-at-kinds.ps stand-at-kinds.r stand-at-reads.Post (λ κs a r s. r ≡ stand_at (bit a.0.now) a.1.0 a.1.1.0)
 stand-at-says κs a r s p = p
@@ -65,12 +55,6 @@ glide-says κs a r s p = p
 
 pub entry-matches-says : Tells 0 entry-matches-kinds.ps entry-matches-kinds.r entry-matches-reads.Post (λ κs a r s. r ≡ matches a.0 a.1.0)
 entry-matches-says κs a r s p = p
-
-pub smaller-says : Tells 0 smaller-kinds.ps smaller-kinds.r smaller-reads.Post (λ κs a r s. r ≡ min a.0 a.1.0)
-smaller-says κs a r s p = p
-
-pub larger-says : Tells 0 larger-kinds.ps larger-kinds.r larger-reads.Post (λ κs a r s. r ≡ max a.0 a.1.0)
-larger-says κs a r s p = p
 
 pub child-within-says : Tells 1 child-within-kinds.ps child-within-kinds.r child-within-reads.Post (λ κs a r s. r ≡ (lowest_by a.0.now a.1.0 (a.1.1.1.0 - a.1.1.0) (a.1.1.0 + 1) a.1.1.1.1.0))
 child-within-says κs a r s p = p

@@ -15,7 +15,6 @@ use Rattle.keymap.specs.Label.{mark, label_in}
 use Rattle.keymap.specs.Bits.{bit}
 use Rattle.keymap.specs.Image.{Image, bits_for}
 use Rattle.louds.specs.declared.answers.Children.{Children}
-use Rattle.louds.specs.Nodes.{Run}
 use Rattle.louds.specs.Nodes.{children_of}
 use Rattle.image.specs.Accept.{entries}
 
@@ -46,7 +45,7 @@ lowest_by ls k (suc left) m a = cond (is_child_by ls k m a) (Some m) (lowest_by 
 
 abbrev pub child_among : List ℕ → ℕ → Option Children → ℕ → Option ℕ
 child_among ls k None a = None
-child_among ls k (Run first count) a = lowest_by ls k count first a
+child_among ls k (Some run) a = lowest_by ls k run.count run.first a
 
 -- "children of k are the ones after the k-th zero up to the next zero or the end, none if that zero is missing"
 unfoldable pub child_by : List ℕ → (ℕ → ℕ) → ℕ → ℕ → ℕ → Option ℕ

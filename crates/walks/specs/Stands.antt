@@ -41,32 +41,24 @@ kids_from b len s =
 unfoldable pub kid_from : (ℕ → ℕ) → ℕ → ℕ → ℕ → ℕ → Stand
 kid_from b len k next m = record { node = m; zero = unwrap_or (zero_from b len next (m - k)) len }
 
-abbrev pub child_of : Option ℕ → (Option ℕ)
-None = None
-(Some m) = Some m
-
-abbrev pub held_of : Option ℕ → (Option ℕ)
-None = None
-(Some v) = Some v
-
-abbrev pub to_kid : (ℕ → ℕ) → ℕ → ℕ → ℕ → Option ℕ → (Option Stand)
+abbrev pub to_kid : (ℕ → ℕ) → ℕ → ℕ → ℕ → Option ℕ → Option Stand
 to_kid b len k next None = None
 to_kid b len k next (Some m) = Some (kid_from b len k next m)
 
-unfoldable pub down_from : List ℕ → (ℕ → ℕ) → ℕ → Stand → ℕ → (Option Stand)
+unfoldable pub down_from : List ℕ → (ℕ → ℕ) → ℕ → Stand → ℕ → Option Stand
 down_from ls b len s a =
     to_kid b len s.node (kids_from b len s).next
     (lowest_by ls s.node (kids_from b len s).count (kids_from b len s).first a)
 
 -- from the stand where a walk is, if it is anywhere
-abbrev pub then_down : List ℕ → (ℕ → ℕ) → ℕ → ℕ → (Option Stand) → (Option Stand)
+abbrev pub then_down : List ℕ → (ℕ → ℕ) → ℕ → ℕ → Option Stand → Option Stand
 then_down ls b len a None = None
 then_down ls b len a (Some s) = down_from ls b len s a
 
-unfoldable pub down_along : List ℕ → (ℕ → ℕ) → ℕ → Key → (Option Stand) → (Option Stand)
+unfoldable pub down_along : List ℕ → (ℕ → ℕ) → ℕ → Key → Option Stand → Option Stand
 down_along ls b len [] at = at
 down_along ls b len (a ∷ q) at = down_along ls b len q (then_down ls b len a at)
 
-abbrev pub reached_at : (ℕ → ℕ) → ℕ → Option ℕ → (Option Stand)
+abbrev pub reached_at : (ℕ → ℕ) → ℕ → Option ℕ → Option Stand
 reached_at b len None = None
 reached_at b len (Some k) = Some (stand_at b len k)

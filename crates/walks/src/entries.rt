@@ -4,24 +4,19 @@ ghost use Rattle.walks.specs.Rule.{is_node_of, counts_to, matches, value_of_node
 
 use image::MARK;
 
+#[tactic(auto, unfolding(crate::specs::Rule::is_node_of))]
 // Whether a number is a node's: 1 to n+1.
 pub fn is_node(labels: &[u16], node: u32) -> bool
     ensures { result ≡ is_node_of (length labels.now) node }
 {
-    if node == 0 {
-        return false;
-    }
-    node as usize <= labels.len() + 1
+    node != 0 && node as usize <= labels.len() + 1
 }
 
 // A child counts only if its number is above its node's and at most the last node's.
 pub fn counts_to(last: usize, node: usize, child: usize) -> bool
     ensures { result ≡ counts_to last node child }
 {
-    if child <= node {
-        return false;
-    }
-    child <= last
+    node < child && child <= last
 }
 
 // Every bit of an entry but the mark of a value.
@@ -34,26 +29,17 @@ pub fn entry_matches(entry: u16, label: u8) -> bool
     entry & UNMARKED == label as u16
 }
 
+#[tactic(auto, unfolding(crate::specs::Rule::value_of_node))]
 // The value of a node. The root has none, nor has a node with an entry of 512 or more.
 pub fn value_at(labels: &[u16], values: &[u32], node: usize) -> Option<u32>
-    ensures { result ≡ (value_of_node labels.now values.now node) }
+    ensures { result ≡ value_of_node labels.now values.now node }
 {
-    if node < 2 {
-        return None;
+    let at = node.checked_sub(2)?;
+    let value = *values.get(at)?;
+    let entry = *labels.get(at)?;
+    if MARK <= entry && entry < 2 * MARK {
+        Some(value)
+    } else {
+        None
     }
-    let at = node - 2;
-    if values.len() <= at {
-        return None;
-    }
-    if labels.len() <= at {
-        return None;
-    }
-    let marked = labels[at];
-    if marked < MARK {
-        return None;
-    }
-    if 2 * MARK <= marked {
-        return None;
-    }
-    Some(values[at])
 }

@@ -18,9 +18,9 @@ fn onward(labels: &[u16], values: &[u32], words: &[u64], len: usize, s: Stand) -
     ensures { result
         ≡ onward_from labels.now values.now (bit words.now) len s }
 {
-    let None = value_at(labels, values, s.node) else {
+    if value_at(labels, values, s.node).is_some() {
         return None;
-    };
+    }
     let k = kids(words, len, s);
     if k.count != 1 {
         return None;
@@ -38,11 +38,9 @@ pub fn glide(labels: &[u16], values: &[u32], words: &[u64], len: usize, s: Stand
 {
     let mut stand = s;
     let mut steps: usize = 0;
-    loop {
-        let Some(t) = onward(labels, values, words, len, stand) else {
-            return Glided { stand, steps };
-        };
+    while let Some(t) = onward(labels, values, words, len, stand) {
         stand = t;
         steps += 1;
     }
+    Glided { stand, steps }
 }

@@ -16,8 +16,6 @@ pub fn down(labels: &[u16], words: &[u64], len: usize, s: Stand, label: u8) -> O
     }
     // so many ones stand before the first of them
     let before = k.first - 1;
-    match child_within(labels, s.node, before, before + k.count, label) {
-        Some(m) => Some(kid_at(words, len, s.node, k.next, m)),
-        None => None,
-    }
+    let m = child_within(labels, s.node, before, before + k.count, label)?;
+    Some(kid_at(words, len, s.node, k.next, m))
 }

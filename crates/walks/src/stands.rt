@@ -3,7 +3,6 @@
 // of these calls only `stand_at`, for a node that is given by its number, looks from bit 0 on.
 ghost use Rattle.std.specs.Prelude.{◌≡◌};
 ghost use Rattle.keymap.specs.Bits.{bit};
-ghost use Rattle.louds.specs.Nodes.{or_end};
 ghost use Rattle.walks.specs.Stands.{stand_at, is_stand, kids_from, kid_from};
 
 use crate::answers::Kids;
@@ -17,38 +16,22 @@ pub struct Stand {
     pub zero: usize,
 }
 
-// Where a bit stands that was asked for, or the end of the bits among which it was.
-pub fn or_end(spot: Option<usize>, len: usize) -> usize
-    ensures { result ≡ or_end len spot }
-{
-    match spot {
-        Some(p) => p,
-        None => len,
-    }
-}
-
 // The stand at any node. Its zero is looked for from bit 0 on.
 pub fn stand_at(words: &[u64], len: usize, node: usize) -> Stand
     ensures { result ≡ stand_at (bit words.now) len node }
 {
-    let spot = zero_at(words, len, node);
     Stand {
         node,
-        zero: or_end(spot, len),
+        zero: zero_at(words, len, node).unwrap_or(len),
     }
 }
 
+#[tactic(auto, unfolding(crate::specs::Stands::is_stand))]
 // Whether a zero can be a node's: it is inside, and as many zeros as the node says can stand up to it.
 fn is_stand(len: usize, node: usize, zero: usize) -> bool
     ensures { result ≡ is_stand len node zero }
 {
-    if len <= zero {
-        return false;
-    }
-    if node == 0 {
-        return false;
-    }
-    node <= zero + 1
+    zero < len && node != 0 && node <= zero + 1
 }
 
 // The children of a stand: the ones behind its zero, up to the next zero or the end. A stand that cannot be one has
@@ -64,8 +47,7 @@ pub fn kids(words: &[u64], len: usize, s: Stand) -> Kids
         };
     }
     let start = s.zero + 1;
-    let spot = zero_from(words, len, start, 1);
-    let next = or_end(spot, len);
+    let next = zero_from(words, len, start, 1).unwrap_or(len);
     Kids {
         first: start - (s.node - 1),
         count: next - start,
@@ -80,9 +62,8 @@ pub fn kid_at(words: &[u64], len: usize, k: usize, next: usize, m: usize) -> Sta
     if m < k {
         return Stand { node: m, zero: len };
     }
-    let spot = zero_from(words, len, next, m - k);
     Stand {
         node: m,
-        zero: or_end(spot, len),
+        zero: zero_from(words, len, next, m - k).unwrap_or(len),
     }
 }

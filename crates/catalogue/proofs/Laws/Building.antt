@@ -18,7 +18,8 @@ use Rattle.keymap.specs.Map.{Map, Catalogue}
 use Rattle.keymap.specs.Prefixes.{prefixes}
 use Rattle.keymap.specs.Image.{bits_for, image_labels, image_values, image_bits, image}
 use Rattle.keymap.specs.Decode.{image_map}
-use Rattle.keymap.specs.Refusals.{Refusal, refuses}
+use Rattle.keymap.specs.Refusals.{refuses}
+use Rattle.keymap.specs.declared.refusals.Refusal.{Refusal}
 use Rattle.keymap.proofs.Laws.Bits.{length-pack}
 use Rattle.keymap.proofs.Laws.Image.{image_map-image, length-image_bits, length-image_labels, length-image_values}
 use Rattle.records.specs.Words.{Pool, record_words, word, used_count, Bounded}

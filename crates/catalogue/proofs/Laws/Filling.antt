@@ -23,7 +23,8 @@ use Rattle.keymap.specs.Limits.{byte_limit}
 use Rattle.keymap.specs.Key.{Bytes}
 use Rattle.keymap.specs.Answers.{answer_number}
 use Rattle.keymap.specs.Map.{Entry, insert_all}
-use Rattle.keymap.specs.Refusals.{Refusal, refuses}
+use Rattle.keymap.specs.Refusals.{refuses}
+use Rattle.keymap.specs.declared.refusals.Refusal.{Refusal}
 use Rattle.keymap.proofs.Laws.Begins.{bytes-prefix, prefix-leading}
 use Rattle.records.specs.Words.{Pool, record_words}
 use Rattle.records.specs.Sound.{Sound}

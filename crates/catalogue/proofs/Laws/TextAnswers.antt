@@ -25,7 +25,8 @@ use Rattle.keymap.specs.Key.{Key, Bytes}
 use Rattle.keymap.specs.Map.{Entry, Map, Rising, insert, insert_all}
 use Rattle.keymap.specs.Prefixes.{prefixes}
 use Rattle.keymap.proofs.Laws.Prefixes.{prefixes-empty}
-use Rattle.keymap.specs.Refusals.{Refusal, refusal_number, refuses}
+use Rattle.keymap.specs.Refusals.{refusal_number, refuses}
+use Rattle.keymap.specs.declared.refusals.Refusal.{Refusal}
 use Rattle.keymap.proofs.Laws.Map.{insert-rising}
 use Rattle.records.specs.Words.{Pool, record_words, capacity}
 use Rattle.records.specs.Sound.{Sound}

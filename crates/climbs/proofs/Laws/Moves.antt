@@ -85,7 +85,7 @@ module _ (b : ℕ → ℕ) (len last : ℕ) (at : Perch) where
   first_from-far e = rw e
 
   module _ (may : leads len at.node at.one ≡ true) where
-    first-zero : (s : (Option ℕ)) → zero_from b len at.one (at.node - (at.one + 1 - at.node)) ≡ s → first_from b len last at ≡ behind_zero b len last at.node s
+    first-zero : (s : Option ℕ) → zero_from b len at.one (at.node - (at.one + 1 - at.node)) ≡ s → first_from b len last at ≡ behind_zero b len last at.node s
     unfolding first_from
     first-zero s e = rw may (ap (behind_zero b len last at.node) e)
 
@@ -142,16 +142,16 @@ rise-lower b len at up e = go (has_parent len at.node at.one) refl
         absurd (omega arith)
 
 -- the bound is enough
-abbrev Bounds : ℕ → (Option Perch) → Type 0
+abbrev Bounds : ℕ → Option Perch → Type 0
 Bounds n None = Unit {0}
 Bounds n (Some at) = at.node < n
 
 module _ (b : ℕ → ℕ) (len last top : ℕ) where
-  rise-bounds : (at : Perch) (n : ℕ) → at.node < suc n → (r : (Option Perch)) → parent_from b len at ≡ r → Bounds n r
+  rise-bounds : (at : Perch) (n : ℕ) → at.node < suc n → (r : Option Perch) → parent_from b len at ≡ r → Bounds n r
   rise-bounds at n l None e = tt
   rise-bounds at n l (Some up) e = omega (arith, l, rise-lower b len at up e)
 
-  climbed-enough : (f g : ℕ) (r : (Option Perch)) → Bounds f r → Bounds g r → climbed_rise b len last top f r ≡ climbed_rise b len last top g r
+  climbed-enough : (f g : ℕ) (r : Option Perch) → Bounds f r → Bounds g r → climbed_rise b len last top f r ≡ climbed_rise b len last top g r
   unfolding climbed_rise
   climbed-enough zero zero r v w = refl
   climbed-enough zero (suc g) None v w = refl
@@ -160,7 +160,7 @@ module _ (b : ℕ → ℕ) (len last top : ℕ) where
   climbed-enough (suc f) zero (Some at) v w = absurd (omega (arith, w))
   climbed-enough (suc f) (suc g) None v w = refl
   climbed-enough (suc f) (suc g) (Some at) v w =
-      ap (λ (r : (Option Perch)). cond (eqb at.node top) None (or_moved (beside_from b len last at) r))
+      ap (λ (r : Option Perch). cond (eqb at.node top) None (or_moved (beside_from b len last at) r))
       (climbed-enough f g (parent_from b len at) (rise-bounds at f v (parent_from b len at) refl) (rise-bounds at g w (parent_from b len at) refl))
 
   climbed-none : (f : ℕ) → climbed_rise b len last top f None ≡ None
@@ -211,7 +211,7 @@ module _ (b : ℕ → ℕ) (small : (i : ℕ) → b i ≤ 1) (len last : ℕ) wh
       bare : ((z : ℕ) → Stands (gap b) len k z → z + 2 - k ≤ k) → first_by b len last k ≡ None
       bare low = at_zero (zero_at b len k) refl
         where
-          at_zero : (t : (Option ℕ)) → zero_at b len k ≡ t → first_by b len last k ≡ None
+          at_zero : (t : Option ℕ) → zero_at b len k ≡ t → first_by b len last k ≡ None
           at_zero None e = first-lost b small len last k e
           at_zero (Some z) e =
               first-at b small len last k z e
@@ -235,7 +235,7 @@ module _ (b : ℕ → ℕ) (small : (i : ℕ) → b i ≤ 1) (len last : ℕ) wh
               rw g (λ x. Some (record { node = z + 2 - k; one = sym place x }))
           child z e false g = rw g
 
-          at_zero : (t : (Option ℕ)) → zero_at b len k ≡ t → first_from b len last (record { node = k; one = q }) ≡ moved_at b len (first_by b len last k)
+          at_zero : (t : Option ℕ) → zero_at b len k ≡ t → first_from b len last (record { node = k; one = q }) ≡ moved_at b len (first_by b len last k)
           at_zero None e = first_from-missing b len last (record { node = k; one = q }) f (same ∙ e) ∙ sym (ap (moved_at b len) (first-lost b small len last k e))
           at_zero (Some z) e =
               first-zero b len last (record { node = k; one = q }) f (Some z) (same ∙ e)
@@ -251,7 +251,7 @@ module _ (b : ℕ → ℕ) (small : (i : ℕ) → b i ≤ 1) (len last : ℕ) wh
               let may : leads len k q ≡ true = leads-last len k q s.inside (λ e. omega (arith, e, s.rank)) (omega (arith, s.rank, ones-zeros b small q)) ∙ lt-ltb (q + 1 - k) k (lt_of_not-le l) in
               absurd (true≢false (sym may ∙ f))
 
-      go : (t : (Option ℕ)) → one_at b len k ≡ t → first_from b len last (perch_at b len k) ≡ moved_at b len (first_by b len last k)
+      go : (t : Option ℕ) → one_at b len k ≡ t → first_from b len last (perch_at b len k) ≡ moved_at b len (first_by b len last k)
       go (Some q) e =
           let place : unwrap_or (one_at b len k) len ≡ q = ap (λ (o : Option ℕ). unwrap_or o len) e in
           ap (first_from b len last) (λ x. record { node = k; one = place x }) ∙ known q (rank-kth b small len k q e) (leads len k q) refl
@@ -274,7 +274,7 @@ module _ (b : ℕ → ℕ) (small : (i : ℕ) → b i ≤ 1) (len last : ℕ) wh
           rw g (λ x. Some (record { node = k + 1; one = sym place x }))
       there q e false g = rw g
 
-      go : (t : (Option ℕ)) → one_at b len k ≡ t → beside_from b len last (perch_at b len k) ≡ moved_at b len (beside_by b len last k)
+      go : (t : Option ℕ) → one_at b len k ≡ t → beside_from b len last (perch_at b len k) ≡ moved_at b len (beside_by b len last k)
       go (Some q) e =
           let place : unwrap_or (one_at b len k) len ≡ q = ap (λ (o : Option ℕ). unwrap_or o len) e in
           ap (beside_from b len last) (λ x. record { node = k; one = place x })
@@ -294,8 +294,8 @@ module _ (b : ℕ → ℕ) (small : (i : ℕ) → b i ≤ 1) (len last : ℕ) wh
   climbed-rule zero top o = refl
   climbed-rule (suc f) top None = refl
   climbed-rule (suc f) top (Some k) =
-      ap₂ (λ (m : (Option Perch)) (r : (Option Perch)). cond (eqb k top) None (or_moved m (climbed_rise b len last top f r))) (beside-rule k) (parent-rule b small len k)
-      ∙ ap (λ (m : (Option Perch)). cond (eqb k top) None (or_moved (moved_at b len (beside_by b len last k)) m)) (climbed-rule f top (parent_by b len k))
+      ap₂ (λ (m : Option Perch) (r : Option Perch). cond (eqb k top) None (or_moved m (climbed_rise b len last top f r))) (beside-rule k) (parent-rule b small len k)
+      ∙ ap (λ (m : Option Perch). cond (eqb k top) None (or_moved (moved_at b len (beside_by b len last k)) m)) (climbed-rule f top (parent_by b len k))
       ∙ moved-choice (eqb k top) (beside_by b len last k) (climbed_from b len last top f (parent_by b len k))
 
   climb-rule : (top k : ℕ) → climb_from b len last top (perch_at b len k) ≡ moved_at b len (climb_by b len last top k)
@@ -315,7 +315,7 @@ pub record MovedTold (b : ℕ → ℕ) (len : ℕ) (o : Option ℕ) (t : Perch) 
   pub node : o ≡ Some t.node
   pub knows : t ≡ perch_at b len t.node
 
-module _ (b : ℕ → ℕ) (small : (i : ℕ) → b i ≤ 1) (len last top : ℕ) (at : Perch) (known : at ≡ perch_at b len at.node) (r : (Option Perch)) (e : r ≡ advance_from b len last top at) where
+module _ (b : ℕ → ℕ) (small : (i : ℕ) → b i ≤ 1) (len last top : ℕ) (at : Perch) (known : at ≡ perch_at b len at.node) (r : Option Perch) (e : r ≡ advance_from b len last top at) where
   moved-is : moved_at b len (advance_by b len last top at.node) ≡ r
   moved-is = sym (e ∙ ap (advance_from b len last top) known ∙ advance-rule b small len last top at.node)
 

@@ -80,7 +80,7 @@ module _ (b : ℕ → ℕ) (small : (i : ℕ) → b i ≤ 1) (len last : ℕ) wh
           one (yes h) = h
           one (no h) = absurd (omega (arith, zeros h, few, sum_below-mono (gap b) {i = z + 1 + 1} {j = stop} (omega (arith, l))))
 
-      go : (t : (Option ℕ)) → zero_at b len (k + 1) ≡ t → ltb 0 (unwrap_or (zero_at b len (k + 1)) len - (z + 1)) ≡ one_behind b len z
+      go : (t : Option ℕ) → zero_at b len (k + 1) ≡ t → ltb 0 (unwrap_or (zero_at b len (k + 1)) len - (z + 1)) ≡ one_behind b len z
       go (Some q) f = rw f (near (rank-kth (gap b) (gap-small b) len (k + 1) q f) (dec_le q (z + 1)))
         where
           after : z < q

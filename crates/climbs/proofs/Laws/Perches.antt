@@ -112,7 +112,7 @@ module _ (b : ℕ → ℕ) (len : ℕ) where
           let same : j ≡ k = cc in
           (omega (arith, same, l), omega (arith, same, lt_of_not-le u))
 
-      go : (u : (Option ℕ)) → parent_of b len m ≡ u → (1 ≤ k) × (k < m)
+      go : (u : Option ℕ) → parent_of b len m ≡ u → (1 ≤ k) × (k < m)
       go None f = absurd (none-some k (sym (parent_by-lost m f) ∙ e))
       go (Some zero) f = absurd (none-some k (sym (parent_by-zero m f) ∙ e))
       go (Some (suc j)) f = high (suc j) f (omega arith) (dec_le m (suc j))
@@ -123,7 +123,7 @@ module _ (b : ℕ → ℕ) (small : (i : ℕ) → b i ≤ 1) (len : ℕ) where
   pub perch-lost : (m : ℕ) → parent_of b len m ≡ None → perch_at b len m ≡ record { node = m; one = len }
   perch-lost m e = go (one_at b len m) refl
     where
-      go : (t : (Option ℕ)) → one_at b len m ≡ t → perch_at b len m ≡ record { node = m; one = len }
+      go : (t : Option ℕ) → one_at b len m ≡ t → perch_at b len m ≡ record { node = m; one = len }
       go (Some q) f = let r = parent-at b small len m q f in let z : ◌≡◌ {A = ℕ} 0 1 = cc in absurd (omega arith)
       go None f = let one : unwrap_or (one_at b len m) len ≡ len = ap (λ (o : Option ℕ). unwrap_or o len) f in λ x. record { node = m; one = one x }
 
@@ -171,7 +171,7 @@ module _ (b : ℕ → ℕ) (small : (i : ℕ) → b i ≤ 1) (len : ℕ) where
           nowhere (yes l) = high l (dec_le m up)
           nowhere (no l) = parent_by-zero b len m (parent-at b small len m q e ∙ ap Some (omega (arith, lt_of_not-le l, s, ones-zeros b small q)))
 
-      go : (t : (Option ℕ)) → one_at b len m ≡ t → parent_from b len (perch_at b len m) ≡ rise_at b len (parent_by b len m)
+      go : (t : Option ℕ) → one_at b len m ≡ t → parent_from b len (perch_at b len m) ≡ rise_at b len (parent_by b len m)
       go (Some q) e =
           let z : unwrap_or (one_at b len m) len ≡ q = ap (λ (o : Option ℕ). unwrap_or o len) e in
           ap (parent_from b len) (λ x. record { node = m; one = z x })
@@ -236,7 +236,7 @@ pub record RiseTold (b : ℕ → ℕ) (len m : ℕ) (t : Perch) : Type 0 where
   pub knows : t ≡ perch_at b len t.node
   pub lower : t.node < m
 
-module _ (b : ℕ → ℕ) (small : (i : ℕ) → b i ≤ 1) (len : ℕ) (at : Perch) (known : at ≡ perch_at b len at.node) (r : (Option Perch)) (e : r ≡ parent_from b len at) where
+module _ (b : ℕ → ℕ) (small : (i : ℕ) → b i ≤ 1) (len : ℕ) (at : Perch) (known : at ≡ perch_at b len at.node) (r : Option Perch) (e : r ≡ parent_from b len at) where
   rise-is : rise_at b len (parent_by b len at.node) ≡ r
   rise-is = sym (e ∙ ap (parent_from b len) known ∙ parent-rule b small len at.node)
 

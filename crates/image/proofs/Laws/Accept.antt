@@ -34,7 +34,7 @@ use Rattle.louds.specs.Nodes.{Run}
 use Rattle.louds.specs.Rank.{ones_before, zeros_before}
 use Rattle.louds.proofs.Laws.Rank.{ones-zeros, zeros-ext}
 use Rattle.louds.proofs.Laws.Select.{kth-rank}
-use Rattle.louds.proofs.Laws.Nodes.{child-of-parent, parent-at}
+use Rattle.louds.proofs.Laws.Nodes.{run-first, run-count, child-of-parent, parent-at}
 use Rattle.image.specs.Accept.{entries, node_entry, parent_in, kids_in, ParentBelow, HasChild, Accepted, OfMap, LentSlices}
 use Rattle.image.proofs.Laws.Spelled.{Spelled, zeros-sequence, spelled-words, spelled-unused, spelled-first, spelled-zeros, spelled-ones, spelled-within, spelled-children, spelled-parent, ChildOf, spelled-parent-of, child-parent}
 

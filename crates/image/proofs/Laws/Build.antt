@@ -17,7 +17,8 @@ use native.Mathlib.Omega.{arith}
 use lib.ListN.{length, get_or, take}
 use lib.Dec.{leb, eqb}
 use borrow.Author.Tests.{le-leb, lt-leb, leb-true, le-ltb, lt-ltb}
-use Rattle.keymap.specs.Refusals.{Refusal, refuses}
+use Rattle.keymap.specs.Refusals.{refuses}
+use Rattle.keymap.specs.declared.refusals.Refusal.{Refusal}
 use Rattle.keymap.specs.Bits.{words_for}
 use Rattle.keymap.specs.Image.{bits_for}
 use Rattle.records.specs.Words.{Pool, record_words, entry, value, used_count}

@@ -29,9 +29,9 @@ use Rattle.louds.specs.Select.{zero_at}
 use Rattle.louds.specs.Rank.{gap, ones_before, zeros_before}
 use Rattle.louds.proofs.Laws.Rank.{gap-small, gap-zero, bit-gap, ones-zeros}
 use Rattle.louds.proofs.Laws.Select.{Stands, rank-kth, kth-rank, kth-exists}
-use Rattle.louds.proofs.Laws.Nodes.{children-to-zero}
+use Rattle.louds.proofs.Laws.Nodes.{run-count, children-to-zero}
 use Rattle.image.specs.Accept.{entries, node_entry, node_value, parent_in, ParentBelow, HasChild, Accepted, LentSlices}
-use Rattle.image.proofs.Laws.Accept.{node-same, run-count, one_parent, accepted-climbs, accepted-second}
+use Rattle.image.proofs.Laws.Accept.{node-same, one_parent, accepted-climbs, accepted-second}
 use Rattle.image.proofs.Laws.AcceptTest.{bit_fits-one, bit_fits-closing, bit_fits-childless}
 use Rattle.image.specs.AcceptTest.{childless_fits, bit_fits, passes_from, lengths_fit, ends_fit, image_test}
 use Rattle.image.proofs.Laws.BitTests.{both, OneFits, one_fits-told, one_fits-made, childless_fits-told, childless_fits-made}

@@ -10,7 +10,8 @@ use lib.ListN.{length, drop}
 use borrow.Author.Tests.{le-leb, lt-leb}
 use Rattle.keymap.specs.Key.{Key}
 use Rattle.keymap.specs.Buffers.{over}
-use Rattle.keymap.specs.Refusals.{refuses, KeyRoom}
+use Rattle.keymap.specs.Refusals.{refuses}
+use Rattle.keymap.specs.declared.refusals.Refusal.TheVariants.{KeyRoom}
 use Rattle.keymap.specs.Answers.{says_written, written_to}
 
 pub record KeyWritten (k : Key) (out : List ℕ) (says : List ℕ) (after : List ℕ) : Type 0 where

@@ -3,7 +3,9 @@ use mathlib.Core.Path.{◌≡◌, refl, sym, ap, ◌∙◌}
 use Prim.Native.Nat.{ℕ, ◌-◌}
 use mathlib.Core.List.{List, [], ◌∷◌}
 use lib.ListN.{get_or}
-use Rattle.keymap.specs.Refusals.{Refusal, PoolTooSmall, NotAPool, EmptyKey, NoRoom, OutTooSmall, NotAnImage, BadPlace, KeyRoom, BadLine, refusal_number}
+use Rattle.keymap.specs.Refusals.{refusal_number}
+use Rattle.keymap.specs.declared.refusals.Refusal.{Refusal}
+use Rattle.keymap.specs.declared.refusals.Refusal.TheVariants.{PoolTooSmall, NotAPool, EmptyKey, NoRoom, OutTooSmall, NotAnImage, BadPlace, KeyRoom, BadLine}
 
 -- the refusals in the order of their numbers, from 1 on
 in_order : List Refusal

@@ -25,7 +25,8 @@ use lib.Dec.{ltb}
 use borrow.Author.Tests.{ltb-true, lt-ltb}
 use Rattle.keymap.specs.Members.{In, here, head_of}
 use Rattle.keymap.specs.Answers.{given}
-use Rattle.keymap.specs.Refusals.{refuses, NotAnImage, BadPlace}
+use Rattle.keymap.specs.Refusals.{refuses}
+use Rattle.keymap.specs.declared.refusals.Refusal.TheVariants.{NotAnImage, BadPlace}
 use Rattle.keymap.specs.Key.{Key, begins_with, PrefixOf, extends}
 use Rattle.keymap.specs.Map.{Entry, Map, Rising, Catalogue, lookup}
 use Rattle.keymap.specs.Queries.{nonempty, SomeBegins, beginning, longer, is_prefix_in, least_above}

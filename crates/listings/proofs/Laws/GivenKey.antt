@@ -15,7 +15,8 @@ use lib.ListN.{length, drop, length-drop}
 use lib.Seq.{drop_at}
 use Rattle.keymap.specs.Members.{In}
 use Rattle.keymap.specs.Key.{Key, PrefixOf}
-use Rattle.keymap.specs.Refusals.{refuses, NotAnImage, BadPlace, KeyRoom}
+use Rattle.keymap.specs.Refusals.{refuses}
+use Rattle.keymap.specs.declared.refusals.Refusal.TheVariants.{NotAnImage, BadPlace, KeyRoom}
 use Rattle.keymap.specs.Map.{Entry, Map}
 use Rattle.keymap.specs.Image.{Image}
 use Rattle.keymap.specs.Paths.{IsNode, path_of, node_of}

@@ -68,7 +68,7 @@ module _ (b : ℕ → ℕ) (small : (i : ℕ) → b i ≤ 1) (len : ℕ) where
   pub stops : (k p : ℕ) → zero_at b len k ≡ Some p → Stops k p (unwrap_or (zero_at b len (k + 1)) len)
   stops k p e = go (rank-kth (gap b) (gap-small b) len k p e) (zero_at b len (k + 1)) refl
     where
-      go : Stands (gap b) len k p → (t : (Option ℕ)) → zero_at b len (k + 1) ≡ t → Stops k p (unwrap_or (zero_at b len (k + 1)) len)
+      go : Stands (gap b) len k p → (t : Option ℕ) → zero_at b len (k + 1) ≡ t → Stops k p (unwrap_or (zero_at b len (k + 1)) len)
       go s (Some q) t =
           let r = rank-kth (gap b) (gap-small b) len (k + 1) q t in
           rw t (record { past = sum_below-lt (gap b) p q (omega (arith, s, r)); within = le_of_lt r.inside; zeros = omega (arith, r); ends = inr r.marked })
@@ -103,7 +103,7 @@ module _ (b : ℕ → ℕ) (small : (i : ℕ) → b i ≤ 1) (len : ℕ) where
   pub children-told : (k f c : ℕ) → children_of b len k ≡ Run f c → (p : ℕ) × RunAt k f c p
   children-told k f c e = go (zero_at b len k) refl
     where
-      go : (t : (Option ℕ)) → zero_at b len k ≡ t → (p : ℕ) × RunAt k f c p
+      go : (t : Option ℕ) → zero_at b len k ≡ t → (p : ℕ) × RunAt k f c p
       go (Some p) q = let r = children-at k p q in (p, record { answer = q; starts = run-first _ _ _ _ (sym e ∙ r); size = run-count _ _ _ _ (sym e ∙ r) })
       go None q = let r = children-none b len k q in let z : ◌≡◌ {A = ℕ} 0 1 = cc in absurd (omega arith)
 
@@ -114,7 +114,7 @@ module _ (b : ℕ → ℕ) (small : (i : ℕ) → b i ≤ 1) (len : ℕ) where
   pub parent-told : (m k : ℕ) → parent_of b len m ≡ Some k → (q : ℕ) × UpAt m k q
   parent-told m k e = go (one_at b len m) refl
     where
-      go : (t : (Option ℕ)) → one_at b len m ≡ t → (q : ℕ) × UpAt m k q
+      go : (t : Option ℕ) → one_at b len m ≡ t → (q : ℕ) × UpAt m k q
       go (Some q) h =
           let r = parent-at m q h in
           let z : k ≡ q - (m - 1) = cc in
@@ -223,7 +223,7 @@ module _ (b : ℕ → ℕ) (small : (i : ℕ) → b i ≤ 1) (len : ℕ) where
       let t = children-told (k + 1) g d next in
       let p : ℕ = r.0 in
       let q : ℕ = t.0 in
-      let size : c ≡ q - (p + 1) = r.1.size ∙ ap (λ (x : (Option ℕ)). unwrap_or x len - (p + 1)) t.1.answer in
+      let size : c ≡ q - (p + 1) = r.1.size ∙ ap (λ (x : Option ℕ). unwrap_or x len - (p + 1)) t.1.answer in
       let here = rank-kth (gap b) (gap-small b) len k p r.1.answer in
       let there = rank-kth (gap b) (gap-small b) len (k + 1) q t.1.answer in
       let past = sum_below-lt (gap b) p q (omega (arith, here, there)) in
@@ -250,17 +250,17 @@ module _ (b c : ℕ → ℕ) (len : ℕ) (same : (i : ℕ) → i < len → b i �
       ones : (p : ℕ) → p ≤ len → ones_before b p ≡ ones_before c p
       ones p h = sum_below-ext b c p (λ j l. same j (le_trans l h))
 
-      within : (t : (Option ℕ)) → zero_at b len (k + 1) ≡ t → unwrap_or t len ≤ len
+      within : (t : Option ℕ) → zero_at b len (k + 1) ≡ t → unwrap_or t len ≤ len
       within (Some q) e = le_of_lt (kth-told (gap b) len (k + 1) q e).inside
       within None e = le_refl len
 
-      go : (t : (Option ℕ)) → zero_at b len k ≡ t → children_of b len k ≡ children_of c len k
+      go : (t : Option ℕ) → zero_at b len k ≡ t → children_of b len k ≡ children_of c len k
       go (Some p) e =
           let stop : ℕ = unwrap_or (zero_at b len (k + 1)) len in
           let start = ones p (le_of_lt (kth-told (gap b) len k p e).inside) in
           let end = ones stop (within (zero_at b len (k + 1)) refl) in
           children-found b len k p e
           ∙ ap₂ Run (omega (arith, start)) (omega (arith, start, end))
-          ∙ ap (λ (x : (Option ℕ)). Run (ones_before c p + 1) (ones_before c (unwrap_or x len) - ones_before c p)) (zero_at-agree (k + 1))
+          ∙ ap (λ (x : Option ℕ). Run (ones_before c p + 1) (ones_before c (unwrap_or x len) - ones_before c p)) (zero_at-agree (k + 1))
           ∙ sym (children-found c len k p (sym (zero_at-agree k) ∙ e))
       go None e = children-none b len k e ∙ sym (children-none c len k (sym (zero_at-agree k) ∙ e))

@@ -237,7 +237,7 @@ module _ (x j : ℕ) (wide : x < 2 ^ word_bits) where
 
 -- ---- an answer that is no 64
 
-pub end-at : (s : (Option ℕ)) (p : ℕ) → p ≡ unwrap_or s word_bits → (p ≡ word_bits → ⊥) → s ≡ Some p
+pub end-at : (s : Option ℕ) (p : ℕ) → p ≡ unwrap_or s word_bits → (p ≡ word_bits → ⊥) → s ≡ Some p
 end-at (Some q) p is l = ap Some (sym is)
 end-at None p is l = absurd (l is)
 

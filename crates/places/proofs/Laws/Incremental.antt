@@ -22,7 +22,8 @@ use Rattle.std.specs.Prelude.{Option, None, Some}
 use lib.ListN.{length, take}
 use Rattle.keymap.specs.Members.{In, here}
 use Rattle.keymap.specs.Key.{Key, PrefixOf}
-use Rattle.keymap.specs.Refusals.{refuses, NotAnImage, BadPlace}
+use Rattle.keymap.specs.Refusals.{refuses}
+use Rattle.keymap.specs.declared.refusals.Refusal.TheVariants.{NotAnImage, BadPlace}
 use Rattle.keymap.specs.Map.{Map, Rising, lookup}
 use Rattle.keymap.specs.Queries.{nonempty, SomeBegins, beginning, longer, is_prefix_in, LongestCommon, common_of_all}
 use Rattle.keymap.specs.Image.{Image, children_in}

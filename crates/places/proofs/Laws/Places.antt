@@ -12,7 +12,8 @@ use mathlib.Core.Bool.{true, false}
 use mathlib.Core.List.{List, [], ◌∷◌, ◌++◌}
 use lib.ListN.{length, drop}
 use Rattle.keymap.specs.Key.{Key}
-use Rattle.keymap.specs.Refusals.{refuses, NotAnImage, BadPlace, KeyRoom}
+use Rattle.keymap.specs.Refusals.{refuses}
+use Rattle.keymap.specs.declared.refusals.Refusal.TheVariants.{NotAnImage, BadPlace, KeyRoom}
 use Rattle.keymap.specs.Map.{lookup}
 use Rattle.keymap.specs.Image.{Image}
 use Rattle.keymap.specs.Paths.{is_node, path_of}

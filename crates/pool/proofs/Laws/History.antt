@@ -26,7 +26,8 @@ use Rattle.keymap.specs.Limits.{value_limit}
 use Rattle.keymap.specs.Key.{Key, Bytes}
 use Rattle.keymap.specs.Map.{Entry, Map, Rising, Proper, Catalogue, insert, insert_all}
 use Rattle.keymap.specs.Prefixes.{prefixes}
-use Rattle.keymap.specs.Refusals.{Refusal, refuses}
+use Rattle.keymap.specs.Refusals.{refuses}
+use Rattle.keymap.specs.declared.refusals.Refusal.{Refusal}
 use Rattle.keymap.proofs.Laws.Map.{insert-rising, insert-catalogue, insert_all-self}
 use Rattle.keymap.proofs.Laws.Prefixes.{prefixes-empty, prefixes-insert}
 use Rattle.records.specs.Words.{Pool, record_words, used_count, Bounded, capacity}

@@ -17,7 +17,8 @@ use lib.ListN.{length, drop, length-append}
 use lib.Dec.{leb, ltb, eqb}
 use borrow.Author.Tests.{le-ltb, lt-ltb, le-leb, lt-leb, eq-eqb, ne_eqb, leb-true, eqb-false}
 use Rattle.keymap.specs.Key.{Key, Bytes}
-use Rattle.keymap.specs.Refusals.{Refusal, refuses}
+use Rattle.keymap.specs.Refusals.{refuses}
+use Rattle.keymap.specs.declared.refusals.Refusal.{Refusal}
 use Rattle.records.specs.Words.{Pool, record_words, used_count, InUse, Node, capacity}
 use Rattle.records.specs.Sound.{Sound}
 use Rattle.records.specs.SoundTest.{sound_test}

@@ -25,7 +25,7 @@ use borrow.Author.Tests.{lt-leb, leb-false}
 use Rattle.keymap.specs.Members.{In}
 use Rattle.keymap.specs.Key.{Key, PrefixOf}
 use Rattle.keymap.specs.Refusals.{refuses}
-use Rattle.keymap.specs.Refusals.{NotAnImage as refused-image}
+use Rattle.keymap.specs.declared.refusals.Refusal.TheVariants.{NotAnImage as refused-image}
 use Rattle.keymap.specs.Map.{Entry, Map, Rising, lookup}
 use Rattle.keymap.specs.Queries.{common_prefix_in}
 use Rattle.keymap.specs.Bits.{bit}

@@ -25,7 +25,8 @@ use lib.ListN.{length, set}
 use lib.Dec.{ltb}
 use Rattle.keymap.specs.Key.{Key}
 use Rattle.keymap.specs.Limits.{value_limit}
-use Rattle.keymap.specs.Refusals.{refuses, NotAnImage}
+use Rattle.keymap.specs.Refusals.{refuses}
+use Rattle.keymap.specs.declared.refusals.Refusal.TheVariants.{NotAnImage}
 use Rattle.keymap.specs.Map.{Map, Catalogue, insert, lookup}
 use Rattle.keymap.specs.Queries.{is_prefix_in}
 use Rattle.keymap.specs.Answers.{says_value, says_flag}

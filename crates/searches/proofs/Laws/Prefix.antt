@@ -21,7 +21,8 @@ use lib.ListN.{length, drop}
 use Rattle.keymap.specs.Members.{In, here}
 use Rattle.keymap.specs.Key.{Key}
 use Rattle.keymap.specs.Limits.{most_records}
-use Rattle.keymap.specs.Refusals.{refuses, NotAnImage, KeyRoom}
+use Rattle.keymap.specs.Refusals.{refuses}
+use Rattle.keymap.specs.declared.refusals.Refusal.TheVariants.{NotAnImage, KeyRoom}
 use Rattle.keymap.specs.Map.{Map}
 use Rattle.keymap.specs.Queries.{beginning, common_of_all, longest_prefix_in}
 use Rattle.keymap.specs.Bits.{bit}

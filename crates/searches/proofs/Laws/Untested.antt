@@ -10,7 +10,8 @@ use mathlib.Core.Bool.{true, false}
 use mathlib.Core.List.{[], ◌∷◌}
 use Rattle.keymap.specs.Key.{Key}
 use Rattle.keymap.specs.Map.{lookup}
-use Rattle.keymap.specs.Refusals.{refuses, NotAnImage}
+use Rattle.keymap.specs.Refusals.{refuses}
+use Rattle.keymap.specs.declared.refusals.Refusal.TheVariants.{NotAnImage}
 use Rattle.keymap.specs.Answers.{says_value}
 use Rattle.keymap.specs.Image.{Image}
 use Rattle.keymap.specs.Decode.{image_map}

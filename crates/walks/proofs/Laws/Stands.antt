@@ -91,7 +91,7 @@ is_stand-told len k p e = go (ltb p len) refl (leb 1 k) refl (leb k (p + 1)) ref
 pub next_zero-ahead : (b : ℕ → ℕ) (len p : ℕ) → p < len → p + 1 ≤ next_zero b len p
 next_zero-ahead b len p h = go (zero_from b len (p + 1) 1) refl
   where
-    go : (t : (Option ℕ)) → zero_from b len (p + 1) 1 ≡ t → p + 1 ≤ unwrap_or (zero_from b len (p + 1) 1) len
+    go : (t : Option ℕ) → zero_from b len (p + 1) 1 ≡ t → p + 1 ≤ unwrap_or (zero_from b len (p + 1) 1) len
     go (Some q) e = rw e (far (dec_le (p + 1) q))
       where
         far : Dec (p + 1 ≤ q) → p + 1 ≤ q
@@ -102,7 +102,7 @@ next_zero-ahead b len p h = go (zero_from b len (p + 1) 1) refl
 next_zero-within : (b : ℕ → ℕ) (len p : ℕ) → next_zero b len p ≤ len
 next_zero-within b len p = go (zero_from b len (p + 1) 1) refl
   where
-    go : (t : (Option ℕ)) → zero_from b len (p + 1) 1 ≡ t → unwrap_or (zero_from b len (p + 1) 1) len ≤ len
+    go : (t : Option ℕ) → zero_from b len (p + 1) 1 ≡ t → unwrap_or (zero_from b len (p + 1) 1) len ≤ len
     go (Some q) e = rw e (omega (arith, (kth-told (onward (p + 1) (gap b)) len 1 q e).inside))
     go None e = rw e (omega arith)
 
@@ -162,7 +162,7 @@ module _ (b : ℕ → ℕ) (small : (i : ℕ) → b i ≤ 1) (len : ℕ) where
       s : Stands (gap b) len k p
       s = rank-kth (gap b) (gap-small b) len k p e
 
-      go : (t : (Option ℕ)) → zero_at b len (k + 1) ≡ t → sum_below (gap b) (unwrap_or (zero_at b len (k + 1)) len) ≡ k
+      go : (t : Option ℕ) → zero_at b len (k + 1) ≡ t → sum_below (gap b) (unwrap_or (zero_at b len (k + 1)) len) ≡ k
       go (Some q) f = rw f (omega (arith, rank-kth (gap b) (gap-small b) len (k + 1) q f))
       go None f =
           rw f
@@ -183,7 +183,7 @@ module _ (b : ℕ → ℕ) (small : (i : ℕ) → b i ≤ 1) (len : ℕ) where
   pub kids-lost : (k : ℕ) → children_of b len k ≡ None → kids_from b len (stand_at b len k) ≡ record { first = 0; count = 0; next = len }
   kids-lost k e = go (zero_at b len k) refl
     where
-      go : (t : (Option ℕ)) → zero_at b len k ≡ t → kids_from b len (stand_at b len k) ≡ record { first = 0; count = 0; next = len }
+      go : (t : Option ℕ) → zero_at b len k ≡ t → kids_from b len (stand_at b len k) ≡ record { first = 0; count = 0; next = len }
       go (Some p) f = let r = children-at b small len k p f in let z : ◌≡◌ {A = ℕ} 0 1 = cc in absurd (omega arith)
       go None f = lost k f
 
@@ -221,7 +221,7 @@ module _ (b : ℕ → ℕ) (small : (i : ℕ) → b i ≤ 1) (len : ℕ) where
       kid p left m e _ (found c l u f) = ap Some (kid-rule k p c e (is_child_by-told ls k c a f).above)
       kid p left m e _ (missed f) = refl
 
-      go : (t : (Option ℕ)) → zero_at b len k ≡ t → down_from ls b len (stand_at b len k) a ≡ reached_at b len (child_by ls b len k a)
+      go : (t : Option ℕ) → zero_at b len k ≡ t → down_from ls b len (stand_at b len k) a ≡ reached_at b len (child_by ls b len k a)
       go (Some p) e =
           let h = here k p e in
           let next : ℕ = unwrap_or (zero_at b len (k + 1)) len in
@@ -261,7 +261,7 @@ module _ (ls : List ℕ) (b : ℕ → ℕ) (len : ℕ) where
       ap (λ (r : Key). down_along ls b len r (Some s)) (drop-cons q j 0 h)
       ∙ ap (λ (n : ℕ). down_along ls b len (drop n q) (down_from ls b len s (get_or q j 0))) (sym (add-one j))
 
-  pub down_along-over : (q : Key) (j : ℕ) (at : (Option Stand)) → length q ≤ j → down_along ls b len (drop j q) at ≡ at
+  pub down_along-over : (q : Key) (j : ℕ) (at : Option Stand) → length q ≤ j → down_along ls b len (drop j q) at ≡ at
   unfolding down_along
   down_along-over q j at h = ap (λ (r : Key). down_along ls b len r at) (drop-over j q h)
 
@@ -285,14 +285,6 @@ pub reached_at-lost : (b : ℕ → ℕ) (len : ℕ) (o : Option ℕ) → reached
 reached_at-lost b len None e = refl
 reached_at-lost b len (Some k) e = let z : ◌≡◌ {A = ℕ} 0 1 = cc in absurd (omega arith)
 
-pub child_of-node : (o : Option ℕ) (m : ℕ) → o ≡ Some m → o ≡ Some m
-child_of-node None m e = let z : ◌≡◌ {A = ℕ} 0 1 = cc in absurd (omega arith)
-child_of-node (Some k) m e = let z : k ≡ m = cc in ap Some z
-
-pub child_of-absent : (o : Option ℕ) → o ≡ None → o ≡ None
-child_of-absent None e = refl
-child_of-absent (Some k) e = let z : ◌≡◌ {A = ℕ} 0 1 = cc in absurd (omega arith)
-
 module _ (ls : List ℕ) (b : ℕ → ℕ) (len : ℕ) (s : Stand) (a : ℕ) where
   pub down_from-there : (m : ℕ) → lowest_by ls s.node (kids_from b len s).count (kids_from b len s).first a ≡ Some m
       → down_from ls b len s a ≡ Some (kid_from b len s.node (kids_from b len s).next m)
@@ -302,11 +294,3 @@ module _ (ls : List ℕ) (b : ℕ → ℕ) (len : ℕ) (s : Stand) (a : ℕ) whe
   pub down_from-absent : lowest_by ls s.node (kids_from b len s).count (kids_from b len s).first a ≡ None → down_from ls b len s a ≡ None
   unfolding down_from
   down_from-absent e = ap (to_kid b len s.node (kids_from b len s).next) e
-
-pub held_of-value : (o : Option ℕ) (v : ℕ) → o ≡ Some v → o ≡ Some v
-held_of-value None v e = let z : ◌≡◌ {A = ℕ} 0 1 = cc in absurd (omega arith)
-held_of-value (Some k) v e = let z : k ≡ v = cc in ap Some z
-
-pub held_of-none : (o : Option ℕ) → o ≡ None → o ≡ None
-held_of-none None e = refl
-held_of-none (Some k) e = let z : ◌≡◌ {A = ℕ} 0 1 = cc in absurd (omega arith)

@@ -157,11 +157,11 @@ module _ (o : After-ones_from-rest) (low to : ℕ) where
   abbrev from : ℕ
   from = o.if-zeros-left.w * 64 - o.loop-i.node + low - 63
 
-  abbrev sought : (Option ℕ)
+  abbrev sought : Option ℕ
   sought = (lowest_by o.args.labels.now o.loop-i.node (to - from) (from + 1) (get_or o.args.query.now o.loop-i.i 0))
 
   -- what a step answers, by the rule
-  step : (r t : (Option ℕ)) → low ≡ count_trailing_zeros word_bits o.ones_from-rest.result → Next o to → r ≡ sought → r ≡ t
+  step : (r t : Option ℕ) → low ≡ count_trailing_zeros word_bits o.ones_from-rest.result → Next o to → r ≡ sought → r ≡ t
       → (child_by o.args.labels.now (bit o.args.words.now) o.args.len o.loop-i.node (get_or o.args.query.now o.loop-i.i 0)) ≡ t
   step r t first next is e =
       let a = o.args in
@@ -174,10 +174,10 @@ module _ (o : After-ones_from-rest) (low to : ℕ) where
       ∙ e
 
   -- a child is above its node, and has an entry
-  bounds : (r : (Option ℕ)) (m : ℕ) → r ≡ sought → r ≡ Some m → (o.loop-i.node < m) × (m ≤ length o.args.labels.now + 1)
+  bounds : (r : Option ℕ) (m : ℕ) → r ≡ sought → r ≡ Some m → (o.loop-i.node < m) × (m ≤ length o.args.labels.now + 1)
   bounds r m is e =
       lowest-bounds o.args.labels.now o.loop-i.node (to - from) (from + 1) (get_or o.args.query.now o.loop-i.i 0) m
-      ((sym is ∙ e))
+      (sym is ∙ e)
 
 pub returns-in_default : goal.returns-in_default
 returns-in_default c =

@@ -32,4 +32,4 @@ pub returns-in-None : goal.returns-in-None
 returns-in-None c =
     let a = c.args in
     let b = bit a.words.now in
-    sym ((reached_at-lost b a.len (walked a.labels.now b a.len a.query.now) (told (goal.at.returns-in-None c).After-reach_end _ c.in-None.is)))
+    sym (reached_at-lost b a.len (walked a.labels.now b a.len a.query.now) (told (goal.at.returns-in-None c).After-reach_end _ c.in-None.is))

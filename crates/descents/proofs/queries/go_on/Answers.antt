@@ -16,7 +16,7 @@ loop-j-init c =
     ap (λ (s : Stand). down_along a.labels.now (bit a.words.now) a.len (drop a.steps a.query.now) (Some s)) (sym c.stand_near-s.ensures)
 
 -- a step down, and what is left from there
-next : (c : After-down) (t : (Option Stand)) → c.down.result ≡ t
+next : (c : After-down) (t : Option Stand) → c.down.result ≡ t
     → let a = c.args in
     let l = c.loop-j in
     down_along a.labels.now (bit a.words.now) a.len (drop l.j a.query.now) (Some l.s)

@@ -19,7 +19,7 @@ returns-in_default c =
     let a = c.args in
     sym
     (in_set_by-unvalued a.labels.now a.values.now (bit a.words.now) a.len a.top a.node a.kind
-    ((sym c.value_at.ensures ∙ c.in_default.is)))
+    (sym c.value_at.ensures ∙ c.in_default.is))
 
 pub returns-then-node-top : goal.returns-then-node-top
 returns-then-node-top c =

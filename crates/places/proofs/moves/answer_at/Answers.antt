@@ -19,8 +19,8 @@ some-kids c e = let count = ap (λ (k : Kids). k.count) c.kids-k.ensures in omeg
 
 pub returns-in-Some : goal.returns-in-Some
 returns-in-Some c =
-    sym (answer-inner (image_in c.args.labels c.args.values c.args.words) c.args.s _ (some-kids (goal.at.returns-in-Some c).Else-k-eq0) ((sym c.value_at.ensures ∙ c.in-Some.is)))
+    sym (answer-inner (image_in c.args.labels c.args.values c.args.words) c.args.s _ (some-kids (goal.at.returns-in-Some c).Else-k-eq0) (sym c.value_at.ensures ∙ c.in-Some.is))
 
 pub returns-in-None : goal.returns-in-None
 returns-in-None c =
-    sym (answer-inner (image_in c.args.labels c.args.values c.args.words) c.args.s _ (some-kids (goal.at.returns-in-None c).Else-k-eq0) ((sym c.value_at.ensures ∙ c.in-None.is)))
+    sym (answer-inner (image_in c.args.labels c.args.values c.args.words) c.args.s _ (some-kids (goal.at.returns-in-None c).Else-k-eq0) (sym c.value_at.ensures ∙ c.in-None.is))

@@ -27,7 +27,7 @@ loop-j-init c =
     (omega arith, told ∙ ap (stand_in i) (sym same), ap (λ k. follow_from i c.args.query.now 0 k) (sym same))
 
 -- what a step answers, by the rule
-step : (c : After-down) (t : (Option Stand)) → c.down.result ≡ t
+step : (c : After-down) (t : Option Stand) → c.down.result ≡ t
     → reached_at (bit c.args.words.now) (bits_for (length c.args.labels.now))
     (child_by c.args.labels.now (bit c.args.words.now) (bits_for (length c.args.labels.now)) c.loop-j.s.node (get_or c.args.query.now c.loop-j.j 0))
     ≡ t

@@ -74,8 +74,8 @@ overflow_add-distance c =
 
 pub returns-in-Some : goal.returns-in-Some
 returns-in-Some c =
-    goto-key (image_in c.args.labels c.args.values c.args.words) c.args.node (one (goal.at.returns-in-Some c).Else-count-gt1) _ (glided (goal.at.returns-in-Some c).Else-count-gt1 _ _ c.kid_at-c.ensures c.glide-g.ensures) _ c.place_number.ensures _ ((sym c.value_at.ensures ∙ c.in-Some.is))
+    goto-key (image_in c.args.labels c.args.values c.args.words) c.args.node (one (goal.at.returns-in-Some c).Else-count-gt1) _ (glided (goal.at.returns-in-Some c).Else-count-gt1 _ _ c.kid_at-c.ensures c.glide-g.ensures) _ c.place_number.ensures _ (sym c.value_at.ensures ∙ c.in-Some.is)
 
 pub returns-in-None : goal.returns-in-None
 returns-in-None c =
-    goto-parting (image_in c.args.labels c.args.values c.args.words) c.args.node (one (goal.at.returns-in-None c).Else-count-gt1) _ (glided (goal.at.returns-in-None c).Else-count-gt1 _ _ c.kid_at-c.ensures c.glide-g.ensures) _ c.place_number-in-None.ensures ((sym c.value_at.ensures ∙ c.in-None.is))
+    goto-parting (image_in c.args.labels c.args.values c.args.words) c.args.node (one (goal.at.returns-in-None c).Else-count-gt1) _ (glided (goal.at.returns-in-None c).Else-count-gt1 _ _ c.kid_at-c.ensures c.glide-g.ensures) _ c.place_number-in-None.ensures (sym c.value_at.ensures ∙ c.in-None.is)

@@ -17,7 +17,7 @@ use Rattle.places.proofs.moves.step_by.Goals.{After-down}
 use Rattle.places.proofs.moves.step_by.Goals as goal
 
 -- what the step answers, by the rule
-told : (c : After-down) (t : (Option Stand)) → c.down.result ≡ t
+told : (c : After-down) (t : Option Stand) → c.down.result ≡ t
     → reached_at (bit c.args.words.now) (bits_for (length c.args.labels.now))
     (child_by c.args.labels.now (bit c.args.words.now) (bits_for (length c.args.labels.now)) c.args.node c.args.label)
     ≡ t

@@ -51,9 +51,9 @@ held c inside v e =
 pub returns-in-Some : goal.returns-in-Some
 returns-in-Some c =
     let inside = node-told (goal.at.returns-in-Some c).Else-not-is_image _ _ c.is_node.ensures c.if-not-is_node.false in
-    record { answer = sym (held (goal.at.returns-in-Some c).Else-not-is_image inside _ ((sym c.value_at.ensures ∙ c.in-Some.is))) }
+    record { answer = sym (held (goal.at.returns-in-Some c).Else-not-is_image inside _ (sym c.value_at.ensures ∙ c.in-Some.is)) }
 
 pub returns-in-None : goal.returns-in-None
 returns-in-None c =
     let inside = node-told (goal.at.returns-in-None c).Else-not-is_image _ _ c.is_node.ensures c.if-not-is_node.false in
-    record { answer = sym (held (goal.at.returns-in-None c).Else-not-is_image inside _ ((sym c.value_at.ensures ∙ c.in-None.is))) }
+    record { answer = sym (held (goal.at.returns-in-None c).Else-not-is_image inside _ (sym c.value_at.ensures ∙ c.in-None.is)) }

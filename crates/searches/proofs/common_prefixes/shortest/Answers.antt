@@ -26,7 +26,7 @@ loop-depth-init c =
     (omega arith, told ∙ ap (stand_at (bit a.words.now) (bits_for (length a.labels.now))) (sym one), ap (λ k. shortest_from (image_in c.args.labels c.args.values c.args.words) a.seen a.query.now 0 (Some k)) (sym one))
 
 -- what a step answers, by the rule
-step : (c : In-loop-depth) (r t : (Option Stand))
+step : (c : In-loop-depth) (r t : Option Stand)
     → r ≡ down_from c.args.labels.now (bit c.args.words.now) (bits_for (length c.args.labels.now)) c.loop-depth.s (get_or c.args.query.now c.loop-depth.depth 0)
     → r ≡ t
     → let a = c.args in

@@ -7,7 +7,7 @@ use Rattle.searches.proofs.exact.find.Goals as goal
 
 pub returns-in_default : goal.returns-in_default
 returns-in_default c =
-    sym (keyed_in-lost (image_in c.args.labels c.args.values c.args.words) c.args.query.now ((sym c.end_of.ensures ∙ c.in_default.is)))
+    sym (keyed_in-lost (image_in c.args.labels c.args.values c.args.words) c.args.query.now (sym c.end_of.ensures ∙ c.in_default.is))
 
 pub returns-in-Some : goal.returns-in-Some
 returns-in-Some c =

@@ -15,8 +15,8 @@ loop-t-init c =
     let a = c.args in
     (omega arith, glided-starts a.labels.now a.values.now (bit a.words.now) a.len a.s)
 
-pub returns-in_default : goal.returns-in_default
-returns-in_default c =
+pub returns : goal.returns
+returns c =
     let a = c.args in
     let l = c.loop-t in
     let b = bit a.words.now in

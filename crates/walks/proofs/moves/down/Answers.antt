@@ -35,9 +35,8 @@ pub overflow_add-before : goal.overflow_add-before
 overflow_add-before c = omega (arith, (numbered (goal.at.overflow_add-before c).After-kids-k).within, c.ranges.len.fits)
 
 -- what was looked for, of the children as they are defined
-looked : (c : After-child_within) (t : (Option ℕ)) → c.child_within.result ≡ t
-    → child_of
-    (lowest_by c.args.labels.now c.args.s.node (kids_from (bit c.args.words.now) c.args.len c.args.s).count (kids_from (bit c.args.words.now) c.args.len c.args.s).first c.args.label)
+looked : (c : After-child_within) (t : Option ℕ) → c.child_within.result ≡ t
+    → (lowest_by c.args.labels.now c.args.s.node (kids_from (bit c.args.words.now) c.args.len c.args.s).count (kids_from (bit c.args.words.now) c.args.len c.args.s).first c.args.label)
     ≡ t
 looked c t e =
     let a = c.args in
@@ -50,18 +49,19 @@ looked c t e =
     ∙ sym c.child_within.ensures
     ∙ e
 
-pub returns-in-Some : goal.returns-in-Some
-returns-in-Some c =
+pub returns : goal.returns
+returns c =
     let a = c.args in
     let b = bit a.words.now in
     let run = c.kids-k.ensures in
-    let there = (looked (goal.at.returns-in-Some c).After-child_within _ c.in-Some.is) in
-    ap Some (c.kid_at.ensures ∙ ap (λ (k : Kids). kid_from b a.len a.s.node k.next c.in-Some.m) run)
+    let there = (looked (goal.at.returns c).After-child_within _ c.in_ok-m.was) in
+    ap Some (c.kid_at.ensures ∙ ap (λ (k : Kids). kid_from b a.len a.s.node k.next c.in_ok-m.m) run)
     ∙ sym (down_from-there a.labels.now b a.len a.s a.label _ there)
 
-pub returns-in-None : goal.returns-in-None
-returns-in-None c =
+pub returns-in_err-m : goal.returns-in_err-m
+returns-in_err-m c =
     let a = c.args in
-    sym
+    c.from_residual.ensures
+    ∙ sym
     (down_from-absent a.labels.now (bit a.words.now) a.len a.s a.label
-    ((looked (goal.at.returns-in-None c).After-child_within _ c.in-None.is)))
+    (looked (goal.at.returns-in_err-m c).After-child_within _ c.in_err-m.was))

@@ -17,7 +17,7 @@ pub returns : goal.returns
 unfolding kid_from
 returns c =
     let a = c.args in
-    let spot = c.zero_from-spot.ensures in
-    let found = c.or_end.ensures in
-    let zero : c.or_end.result ≡ unwrap_or (zero_from (bit a.words.now) a.len a.next (a.m - a.k)) a.len = cc in
+    let spot = c.zero_from.ensures in
+    let found = c.unwrap_or.ensures in
+    let zero : c.unwrap_or.result ≡ unwrap_or (zero_from (bit a.words.now) a.len a.next (a.m - a.k)) a.len = cc in
     λ x. record { node = a.m; zero = zero x }

@@ -29,11 +29,11 @@ overflow_sub-result-2 c = let t = is_stand-told _ _ _ (stands (goal.at.overflow_
 
 -- the next zero, as it was found
 next-is : (c : After-struct_known-2-1)
-    → c.or_end-next.result
+    → c.unwrap_or-next.result
     ≡ next_zero (bit c.args.words.now) c.args.len c.args.s.zero
 next-is c =
-    let spot = c.zero_from-spot.ensures in
-    let found = c.or_end-next.ensures in
+    let spot = c.zero_from.ensures in
+    let found = c.unwrap_or-next.ensures in
     cc
 
 pub overflow_sub-result-3 : goal.overflow_sub-result-3

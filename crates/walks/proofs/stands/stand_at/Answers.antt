@@ -8,7 +8,7 @@ use Rattle.walks.proofs.stands.stand_at.Goals as goal
 pub returns : goal.returns
 returns c =
     let a = c.args in
-    let spot = c.zero_at-spot.ensures in
-    let found = c.or_end.ensures in
-    let zero : c.or_end.result ≡ unwrap_or (zero_at (bit a.words.now) a.len a.node) a.len = cc in
+    let spot = c.zero_at.ensures in
+    let found = c.unwrap_or.ensures in
+    let zero : c.unwrap_or.result ≡ unwrap_or (zero_at (bit a.words.now) a.len a.node) a.len = cc in
     λ x. record { node = a.node; zero = zero x }

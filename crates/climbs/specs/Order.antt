@@ -17,7 +17,7 @@ use Rattle.keymap.specs.Map.{Entry, Map}
 use Rattle.keymap.specs.Paths.{IsNode, path_of, node_of}
 use Rattle.louds.specs.declared.answers.Children.{Children}
 use Rattle.louds.specs.Select.{one_at}
-use Rattle.louds.specs.Nodes.{Run, children_of}
+use Rattle.louds.specs.Nodes.{children_of}
 use Rattle.walks.specs.Rule.{counts_to, value_of_node}
 use Rattle.climbs.specs.Perches.{parent_by}
 use Rattle.climbs.specs.declared.order.Given.{Given}
@@ -30,7 +30,7 @@ or_else None o = o
 
 abbrev pub first_of : ℕ → ℕ → Option Children → Option ℕ
 first_of last k None = None
-first_of last k (Run first count) = cond (ltb 0 count && counts_to last k first) (Some first) None
+first_of last k (Some run) = cond (ltb 0 run.count && counts_to last k run.first) (Some run.first) None
 
 unfoldable pub first_by : (ℕ → ℕ) → ℕ → ℕ → ℕ → Option ℕ
 first_by b len last k = first_of last k (children_of b len k)

@@ -7,7 +7,6 @@ ghost use Rattle.keymap.specs.Bits.{bit};
 ghost use Rattle.climbs.specs.Perches.{perch_at, has_parent, parent_from, depth_by};
 
 use louds::{one_back, parent};
-use walks::stands::or_end;
 
 // A node with the place of its one.
 #[derive(Clone, Copy)]
@@ -56,10 +55,9 @@ pub fn parent_of(words: &[u64], len: usize, at: Perch) -> Option<Perch>
         return None;
     }
     let up = at.one - (at.node - 1);
-    let spot = one_back(words, at.one, at.node - up);
     Some(Perch {
         node: up,
-        one: or_end(spot, at.one),
+        one: one_back(words, at.one, at.node - up).unwrap_or(at.one),
     })
 }
 

@@ -8,8 +8,8 @@ ghost use Rattle.walks.specs.Stands.{reached_at};
 ghost use Rattle.descents.specs.Far.{PassedFrom, Ready, ZeroWord, stand_near, went_on};
 
 use louds::{WORD_BITS, lowest_one, ones_by_byte, ones_from, ones_in, zero_from};
-use walks::siblings::{child_within, larger, smaller};
-use walks::stands::{Stand, or_end};
+use walks::siblings::child_within;
+use walks::stands::Stand;
 
 // Where more zeros are to be passed, four words are counted at once. Any number would be right; with others more
 // instructions were taken.
@@ -147,7 +147,7 @@ pub fn go_far(labels: &[u16], words: &[u64], len: usize, query: &[u8]) -> Went
         ≡ reached_at (bit words.now) len
         (walked labels.now (bit words.now) len query.now) }
 {
-    let whole = smaller(words.len(), len / WORD_BITS);
+    let whole = words.len().min(len / WORD_BITS);
     let mut node: usize = 1;
     let mut w: usize = 0;
     let mut left: usize = 1;
@@ -198,14 +198,13 @@ pub fn go_far(labels: &[u16], words: &[u64], len: usize, query: &[u8]) -> Went
 pub fn stand_near(words: &[u64], len: usize, node: usize, kept: usize, left: usize) -> Stand
     ensures { result ≡ stand_near (bit words.now) len node kept left }
 {
-    let last = larger(kept, 1) - 1;
+    let last = kept.saturating_sub(1);
     // a word that begins behind the end has none of the bits
     if len / WORD_BITS < last {
         return Stand { node, zero: len };
     }
-    let spot = zero_from(words, len, last * WORD_BITS, left);
     Stand {
         node,
-        zero: or_end(spot, len),
+        zero: zero_from(words, len, last * WORD_BITS, left).unwrap_or(len),
     }
 }

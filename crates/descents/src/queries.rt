@@ -76,7 +76,7 @@ fn reach_end(labels: &[u16], words: &[u64], len: usize, query: &[u8]) -> Ended
 // The node at the end of a query, walked from node 1.
 pub fn end_of(labels: &[u16], words: &[u64], len: usize, query: &[u8]) -> Option<usize>
     ensures { result
-        ≡ (walked labels.now (bit words.now) len query.now) }
+        ≡ walked labels.now (bit words.now) len query.now }
 {
     match reach_end(labels, words, len, query) {
         Ended::Near {

@@ -4,6 +4,13 @@ ghost use Rattle.walks.specs.Rule.{is_node_of, counts_to, matches, value_of_node
 
 use image::MARK;
 
+// A node that is a key's, with the key's value.
+#[derive(Clone, Copy)]
+pub struct KeyNode {
+    pub node: usize,
+    pub value: u32,
+}
+
 #[tactic(auto, unfolding(crate::specs::Rule::is_node_of))]
 // Whether a number is a node's: 1 to n+1.
 pub fn is_node(labels: &[u16], node: u32) -> bool

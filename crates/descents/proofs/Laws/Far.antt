@@ -61,14 +61,14 @@ pub record ZeroAt (ws : List ℕ) (k p : ℕ) : Type 0 where
 -- the words from `first` on are passed up to word w, of which the last has these sums
 pub record Passing (ws : List ℕ) (whole first k w left sums : ℕ) : Type 0 where
   pub sum : zeros_up_to ws first + k + sums / 2 ^ 56 ≡ zeros_up_to ws w + left
-  pub Some : 0 < k → 0 < left
+  pub some : 0 < k → 0 < left
   pub own : 0 < sums / 2 ^ 56 → (0 < w) × (w ≤ whole) × (sums ≡ byte_ranks (zero_bits ws (w - 1)))
 
 pub nothing-passed : (ws : List ℕ) (first k : ℕ) → PassedFrom ws first k (record { words = first; left = k })
-nothing-passed ws first k = record { sum = refl; Some = λ h. h }
+nothing-passed ws first k = record { sum = refl; some = λ h. h }
 
 pub passing-start : (ws : List ℕ) (whole first k : ℕ) → Passing ws whole first k first k 0
-passing-start ws whole first k = record { sum = omega arith; Some = λ h. h; own = λ h. absurd (omega (arith, h)) }
+passing-start ws whole first k = record { sum = omega arith; some = λ h. h; own = λ h. absurd (omega (arith, h)) }
 
 module _ (ws : List ℕ) (wide : (i : ℕ) → get_or ws i 0 < 2 ^ word_bits) where
   abbrev b : ℕ → ℕ
@@ -191,7 +191,7 @@ module _ (ws : List ℕ) (wide : (i : ℕ) → get_or ws i 0 < 2 ^ word_bits) wh
       → PassedFrom ws first k (record { words = w + 4; left = left - zeros })
   four-passed first k w left there zeros p is less few l = record {
     sum = omega (arith, p.sum, four-next w, is, less, few, l);
-    Some = λ h. omega (arith, l);
+    some = λ h. omega (arith, l);
   }
 
   pub passing-next : (whole first k w left sums next : ℕ) → Passing ws whole first k w left sums → sums / 2 ^ 56 < left → w < whole → next ≡ byte_ranks (zero_bits ws w)
@@ -200,7 +200,7 @@ module _ (ws : List ℕ) (wide : (i : ℕ) → get_or ws i 0 < 2 ^ word_bits) wh
       let same : zero_bits ws (w + 1 - 1) ≡ zero_bits ws w = ap (zero_bits ws) (omega arith) in
       record {
         sum = omega (arith, p.sum, all-zeros w next is, word_next w, few);
-        Some = λ h. omega (arith, few);
+        some = λ h. omega (arith, few);
         own = λ h. (omega arith, omega (arith, inside), is ∙ ap byte_ranks (sym same));
       }
 
@@ -214,7 +214,7 @@ module _ (ws : List ℕ) (wide : (i : ℕ) → get_or ws i 0 < 2 ^ word_bits) wh
       record {
         inside = o.1;
         sum = omega (arith, p.sum, up, word_next (w - 1), count);
-        Some = left-some;
+        some = left-some;
         enough = enough;
         own = record { all = count; by_byte = o.2 };
       }
@@ -222,14 +222,14 @@ module _ (ws : List ℕ) (wide : (i : ℕ) → get_or ws i 0 < 2 ^ word_bits) wh
 pub ready-through : (ws : List ℕ) (whole first k : ℕ) (p : Passed) (r : Kept) → PassedFrom ws first k p → Ready ws whole p.words p.left r → Ready ws whole first k r
 ready-through ws whole first k p r f g h there =
     let o = g (f.some h) there in
-    record { inside = o.inside; sum = f.sum ∙ o.sum; Some = o.some; enough = o.enough; own = o.own }
+    record { inside = o.inside; sum = f.sum ∙ o.sum; some = o.some; enough = o.enough; own = o.own }
 
 -- ---- a walk by whole words
 
 -- the word kept is the w-th, or none is: `left` of the zeros from its start on, or from bit 0 on, reach the node's
 pub record Keeping (ws : List ℕ) (whole node w left zeros sums : ℕ) : Type 0 where
   pub sum : zeros_up_to ws (w - 1) + left ≡ node
-  pub Some : 0 < left
+  pub some : 0 < left
   pub start : w ≡ 0 → zeros ≡ 0
   pub own : 0 < w → (w ≤ whole) × OwnSums ws (w - 1) zeros sums
 
@@ -238,19 +238,19 @@ pub record Settled (ws : List ℕ) (whole node w left zeros sums : ℕ) : Type 0
   pub kept : 0 < w
   pub inside : w ≤ whole
   pub sum : zeros_up_to ws (w - 1) + left ≡ node
-  pub Some : 0 < left
+  pub some : 0 < left
   pub enough : left ≤ zeros
   pub own : OwnSums ws (w - 1) zeros sums
 
 pub keeping_start : (ws : List ℕ) (whole : ℕ) → Keeping ws whole 1 0 1 0 0
-keeping_start ws whole = record { sum = ap (λ (x : ℕ). x + 1) (sum_below-zero (gap (bit ws))); Some = omega arith; start = λ e. refl; own = λ h. absurd (omega (arith, h)) }
+keeping_start ws whole = record { sum = ap (λ (x : ℕ). x + 1) (sum_below-zero (gap (bit ws))); some = omega arith; start = λ e. refl; own = λ h. absurd (omega (arith, h)) }
 
 pub keeping-next : (ws : List ℕ) (whole node w left zeros sums m : ℕ) → Settled ws whole node w left zeros sums → node ≤ m → Keeping ws whole m w (left + (m - node)) zeros sums
 keeping-next ws whole node w left zeros sums m s l =
-    record { sum = omega (arith, s.sum, l); Some = omega (arith, s.some); start = λ e. absurd (omega (arith, e, s.kept)); own = λ h. (s.inside, s.own) }
+    record { sum = omega (arith, s.sum, l); some = omega (arith, s.some); start = λ e. absurd (omega (arith, e, s.kept)); own = λ h. (s.inside, s.own) }
 
 pub settled-keeping : (ws : List ℕ) (whole node w left zeros sums : ℕ) → Settled ws whole node w left zeros sums → Keeping ws whole node w left zeros sums
-settled-keeping ws whole node w left zeros sums s = record { sum = s.sum; Some = s.some; start = λ e. absurd (omega (arith, e, s.kept)); own = λ h. (s.inside, s.own) }
+settled-keeping ws whole node w left zeros sums s = record { sum = s.sum; some = s.some; start = λ e. absurd (omega (arith, e, s.kept)); own = λ h. (s.inside, s.own) }
 
 -- the stand at the node, from there on
 pub keeping-stand : (ws : List ℕ) (whole node w left zeros sums len : ℕ) → Keeping ws whole node w left zeros sums → stand_near (bit ws) len node w left ≡ stand_at (bit ws) len node
@@ -276,13 +276,13 @@ module _ (ws : List ℕ) (wide : (i : ℕ) → get_or ws i 0 < 2 ^ word_bits) (w
       → Settled ws whole node r.words r.left r.zeros r.sums
   settled-found r k l f there =
       let o = f (omega (arith, l)) (omega (arith, there)) in
-      record { kept = omega (arith, there); inside = o.inside; sum = omega (arith, o.sum, zeros-passed k, l); Some = o.some; enough = o.enough; own = o.own }
+      record { kept = omega (arith, there); inside = o.inside; sum = omega (arith, o.sum, zeros-passed k, l); some = o.some; enough = o.enough; own = o.own }
 
   pub settled-kept : Keeping ws whole node w left zeros sums → left ≤ zeros → Settled ws whole node w left zeros sums
   settled-kept k l = at (dec_le 1 w)
     where
       at : Dec (1 ≤ w) → Settled ws whole node w left zeros sums
-      at (yes h) = let o = k.own h in record { kept = h; inside = o.0; sum = k.sum; Some = k.some; enough = l; own = o.1 }
+      at (yes h) = let o = k.own h in record { kept = h; inside = o.0; sum = k.sum; some = k.some; enough = l; own = o.1 }
       at (no h) = let none_kept : w ≡ 0 = omega arith in absurd (omega (arith, k.some, l, k.start none_kept))
 
   module _ (s : Settled ws whole node w left zeros sums) (rest : ℕ) (is : rest ≡ ones_from (zero_bits ws (w - 1)) sums left) where
@@ -298,7 +298,7 @@ module _ (ws : List ℕ) (wide : (i : ℕ) → get_or ws i 0 < 2 ^ word_bits) (w
     pub record Stood : Type 0 where
       pub lowest : count_trailing_zeros word_bits rest ≡ own-taken.place
       pub near : own-taken.place < word_bits
-      pub Some : rest ≡ 0 → ⊥
+      pub some : rest ≡ 0 → ⊥
       pub zero : ZeroAt ws (node - 1) zero-place
       pub one : 1 ≤ node
       pub few : node ≤ zero-place + 1
@@ -311,7 +311,7 @@ module _ (ws : List ℕ) (wide : (i : ℕ) → get_or ws i 0 < 2 ^ word_bits) (w
         record {
           lowest = own-taken.lowest;
           near = own-taken.inside;
-          Some = own-taken.some;
+          some = own-taken.some;
           zero = z;
           one = omega (arith, s.sum, s.some);
           few = omega (arith, z.before, few-zeros);

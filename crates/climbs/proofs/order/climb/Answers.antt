@@ -26,7 +26,7 @@ pub loop-at-smaller : goal.loop-at-smaller
 loop-at-smaller c =
     let a = c.args in
     let l = c.loop-at in
-    rise-lower (bit a.words.now) a.len l.at _ (sym c.parent_of.ensures ∙ c.in-Some.is)
+    rise-lower (bit a.words.now) a.len l.at _ (sym c.parent_of.ensures ∙ c.in-Some-parent_of.is)
 
 pub loop-at-preserved : goal.loop-at-preserved
 loop-at-preserved c =
@@ -34,7 +34,7 @@ loop-at-preserved c =
     let l = c.loop-at in
     l.invariant
     ∙ climb_from-up (bit a.words.now) a.len a.last a.top l.at (omega arith) (sym c.beside.ensures ∙ c.in-None.is) _
-    (sym c.parent_of.ensures ∙ c.in-Some.is)
+    (sym c.parent_of.ensures ∙ c.in-Some-parent_of.is)
 
 pub returns : goal.returns
 returns c =

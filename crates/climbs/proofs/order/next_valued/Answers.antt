@@ -45,16 +45,16 @@ there c =
     let l = c.loop-left in
     moved_to (bit a.words.now) (bit-small a.words.now) a.len (length a.labels.now + 1) a.top l.at l.invariant.0 _ c.advance.ensures _ c.in-Some.is
 
-pub returns-in-Some : goal.returns-in-Some
-returns-in-Some c =
+pub returns-in-Some-value_at : goal.returns-in-Some-value_at
+returns-in-Some-value_at c =
     let a = c.args in
     let l = c.loop-left in
     let b = bit a.words.now in
-    let value = (sym c.value_at.ensures ∙ c.in-Some.is) in
+    let value = (sym c.value_at.ensures ∙ c.in-Some-value_at.is) in
     sym
     (ap given_of
     (l.invariant.1
-    ∙ ap (sought_from a.labels.now a.values.now b a.len a.top l.left) (there (goal.at.returns-in-Some c).In-Some).node
+    ∙ ap (sought_from a.labels.now a.values.now b a.len a.top l.left) (there (goal.at.returns-in-Some-value_at c).In-Some).node
     ∙ sought-value a.labels.now a.values.now b a.len a.top l.left _ _ (omega arith) value))
 
 pub loop-left-preserved : goal.loop-left-preserved

@@ -1,7 +1,7 @@
 -- `climbs::perches::parent_of` meets its contract: past the test the subtractions stand, and the parent's one is the definition's. Assumes nothing.
 use Rattle.std.specs.Prelude.{Some, unwrap_or, Option}
 use mathlib.Core.Path.{◌≡◌, sym, ap, ◌∙◌}
-use Prim.Native.Nat.{◌-◌}
+use Prim.Native.Nat.{ℕ, ◌-◌}
 use native.Mathlib.Omega.{arith}
 use mathlib.Core.Bool.{true}
 use Rattle.keymap.specs.Bits.{bit}
@@ -32,5 +32,5 @@ pub returns : goal.returns
 returns c =
     let a = c.args in
     let up = a.at.one - (a.at.node - 1) in
-    let one = c.or_end.ensures ∙ ap (λ (o : Option ℕ). unwrap_or o a.at.one) c.one_back-spot.ensures in
+    let one = c.unwrap_or.ensures ∙ ap (λ (o : Option ℕ). unwrap_or o a.at.one) c.one_back.ensures in
     (λ x. Some (record { node = up; one = one x })) ∙ sym (parent_from-some (bit a.words.now) a.len a.at (has (goal.at.returns c).Else-not-has_parent))

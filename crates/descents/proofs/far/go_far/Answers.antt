@@ -19,7 +19,7 @@ use Rattle.descents.proofs.far.go_far.Goals.{After-ones_from-rest, After-row_kno
 use Rattle.descents.proofs.far.go_far.Goals as goal
 
 pub loop-i-init : goal.loop-i-init
-loop-i-init c = let a = c.args in let h = c.smaller-whole.ensures in (omega arith, omega (arith, h), omega (arith, h), keeping_start a.words.now c.smaller-whole.result, refl)
+loop-i-init c = let a = c.args in let h = c.min-whole.ensures in (omega arith, omega (arith, h), omega (arith, h), keeping_start a.words.now c.min-whole.result, refl)
 
 pub overflow_sub-left : goal.overflow_sub-left
 overflow_sub-left c = omega (arith, c.if-zeros-left.true)
@@ -30,7 +30,7 @@ module _ (c : After-row_known-1) where
   ws = c.args.words.now
 
   abbrev whole : ℕ
-  whole = c.smaller-whole.result
+  whole = c.min-whole.result
 
   wide : (i : ℕ) → get_or ws i 0 < 2 ^ word_bits
   wide i = (c.shared_slice_known-2-1.given i).fits
@@ -228,14 +228,14 @@ returns-after-loop-i c =
     let a = c.args in
     let l = c.loop-i in
     gone-rule a.labels.now a.words.now a.len a.query.now l.node l.i l.w l.left l.invariant.4
-    (keeping-stand a.words.now c.smaller-whole.result l.node l.w l.left l.zeros l.sums a.len l.invariant.3)
+    (keeping-stand a.words.now c.min-whole.result l.node l.w l.left l.zeros l.sums a.len l.invariant.3)
 
 pub returns-then-k-eq0 : goal.returns-then-k-eq0
 returns-then-k-eq0 c =
     let a = c.args in
     let l = c.loop-i in
     gone-rule a.labels.now a.words.now a.len a.query.now l.node l.i l.w l.left l.invariant.4
-    (keeping-stand a.words.now c.smaller-whole.result l.node l.w l.left l.zeros l.sums a.len l.invariant.3)
+    (keeping-stand a.words.now c.min-whole.result l.node l.w l.left l.zeros l.sums a.len l.invariant.3)
 
 pub returns-then-whole-v : goal.returns-then-whole-v
 returns-then-whole-v c =

@@ -22,14 +22,14 @@ returns-in-Near c =
     let near = stand_near b a.len c.in-Near.node c.in-Near.kept c.in-Near.left in
     sym ((reached_at-to b a.len (walked a.labels.now b a.len a.query.now) near (told (goal.at.returns-in-Near c).After-reach_end _ c.in-Near.is)).node)
 
-pub returns-in-Some : goal.returns-in-Some
-returns-in-Some c =
+pub returns-in-At : goal.returns-in-At
+returns-in-At c =
     let a = c.args in
     let b = bit a.words.now in
-    sym ((reached_at-to b a.len (walked a.labels.now b a.len a.query.now) c.in-Some.s (told (goal.at.returns-in-Some c).After-reach_end _ c.in-Some.is)).node)
+    sym ((reached_at-to b a.len (walked a.labels.now b a.len a.query.now) c.in-At.s (told (goal.at.returns-in-At c).After-reach_end _ c.in-At.is)).node)
 
-pub returns-in-None : goal.returns-in-None
-returns-in-None c =
+pub returns-in-Nowhere : goal.returns-in-Nowhere
+returns-in-Nowhere c =
     let a = c.args in
     let b = bit a.words.now in
-    sym (reached_at-lost b a.len (walked a.labels.now b a.len a.query.now) (told (goal.at.returns-in-None c).After-reach_end _ c.in-None.is))
+    sym (reached_at-lost b a.len (walked a.labels.now b a.len a.query.now) (told (goal.at.returns-in-Nowhere c).After-reach_end _ c.in-Nowhere.is))

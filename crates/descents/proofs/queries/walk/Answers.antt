@@ -27,8 +27,8 @@ returns-in-Near c =
     ∙ down_along-over a.labels.now b a.len a.query.now (length a.query.now) (Some near) (omega arith)
     ∙ sym (told (goal.at.returns-in-Near c).After-reach_end _ c.in-Near.is)
 
-pub returns-in-Some : goal.returns-in-Some
-returns-in-Some c = sym (told (goal.at.returns-in-Some c).After-reach_end _ c.in-Some.is)
+pub returns-in-At : goal.returns-in-At
+returns-in-At c = sym (told (goal.at.returns-in-At c).After-reach_end _ c.in-At.is)
 
-pub returns-in-None : goal.returns-in-None
-returns-in-None c = sym (told (goal.at.returns-in-None c).After-reach_end _ c.in-None.is)
+pub returns-in-Nowhere : goal.returns-in-Nowhere
+returns-in-Nowhere c = sym (told (goal.at.returns-in-Nowhere c).After-reach_end _ c.in-Nowhere.is)

@@ -26,11 +26,11 @@ after_read done (Some (suc k)) =
     cond (ltb (done + suc k) file_room) (record { done = done + suc k; stage = Stage.Open })
     (record { done = file_room; stage = Stage.Whole })
 
--- by what is known so far
-abbrev pub by_stage : {A : Type 0} → Stage → (open whole failed : A) → A
-by_stage Stage.Open o w f = o
-by_stage Stage.Whole o w f = w
-by_stage Stage.Failed o w f = f
+-- the first while a read is wanted, the second of a file that was read, the third of one that could not be
+abbrev pub by_stage : {A : Type 0} → Stage → A → A → A → A
+by_stage Stage.Open x y z = x
+by_stage Stage.Whole x y z = y
+by_stage Stage.Failed x y z = z
 
 abbrev pub take_read : Reading → Option ℕ → Reading
 take_read r read = by_stage r.stage (after_read r.done read) r r

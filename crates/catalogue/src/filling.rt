@@ -1,5 +1,6 @@
 // The lines of a text pushed into a pool.
 ghost use Rattle.std.specs.Prelude.{◌≡◌, [], ◌∷◌};
+ghost use Rattle.pool.specs.Answers.{said_pushed};
 ghost use Rattle.lines.specs.TabLine.{tab_entry};
 ghost use Rattle.lines.specs.Text.{lines_of, entry_lines};
 ghost use Rattle.catalogue.specs.Filling.{said_filled, said_line, line_says, line_pool, fill_from, left_from, fill_pool, HeldIf};
@@ -51,7 +52,13 @@ fn push_line(line: &[u8], pool: &mut [u32]) -> Result<(), Refusal>
     ensures left { pool.new ≡ line_pool pool.old (tab_entry line.now) }
 {
     let entry = lines::tab_line(line)?;
-    match pool::push(pool, lines::tab_line_key(line), entry.number) {
+    pushed(pool::push(pool, lines::tab_line_key(line), entry.number))
+}
+
+fn pushed(answer: Pushed) -> Result<(), Refusal>
+    ensures { said_line result ≡ said_pushed answer }
+{
+    match answer {
         Pushed::Done => Ok(()),
         Pushed::PoolTooSmall => Err(Refusal::PoolTooSmall),
         Pushed::NotAPool => Err(Refusal::NotAPool),

@@ -15,7 +15,7 @@ ghost use Rattle.catalogue.specs.Reading.{what_read};
 ghost use Rattle.catalogue.specs.Program.{program_text};
 ghost use Rattle.catalogue.specs.Rooms.{program_pool, built_from};
 
-use crate::filling::{Refused, fill};
+use crate::filling::fill;
 use crate::listing::list_pool;
 use crate::putting::{put_refused, put_text};
 use crate::reading::{Reading, Stage};
@@ -50,6 +50,6 @@ pub fn answer(
     }
     match fill(&text[..length], pool) {
         Ok(()) => list_pool(pool, labels, values, words, scratch, out),
-        Err(Refused { refusal, line }) => put_refused(refusal.number(), line, out),
+        Err(refused) => put_refused(refused.refusal.number(), refused.line, out),
     }
 }

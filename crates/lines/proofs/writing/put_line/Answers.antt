@@ -10,12 +10,8 @@ use Rattle.lines.specs.Bytes.{tab, line_feed}
 use Rattle.lines.specs.Decimal.{decimal}
 use Rattle.lines.specs.Writing.{tab_line, tab_text}
 use Rattle.keymap.proofs.Laws.Buffers.{over-set, over-behind}
+use Rattle.lines.proofs.Laws.Writing.{put_mid-over}
 use Rattle.lines.proofs.writing.put_line.Goals as goal
-
--- a part of a buffer that is filled
-filled : (out part t : List ℕ) (at n : ℕ) → part ≡ t → n ≡ length t → put_mid at n out part ≡ take at out ++ over t (drop at out)
-unfolding over
-filled out part t at n p q = rw (p, q)
 
 fronted : (front s out : List ℕ) → front ≡ s → front ++ drop (length s) out ≡ over s out
 unfolding over
@@ -30,7 +26,7 @@ put key keyed digits out n k e h p q =
     ap (λ (t : List ℕ). set t (length key) tab) (fronted keyed key out p) ∙ over-set key out (length key) tab refl (omega arith) in
     let wide : length (key ++ (tab ∷ [])) ≡ length key + 1 = length-append key (tab ∷ []) in
     let numbered =
-    filled (set (keyed ++ drop (length key) out) (length key) tab) digits (decimal n) (length key + 1) (length key + 1 + k - (length key + 1)) q (omega arith)
+    put_mid-over (length key + 1) (length key + 1 + k - (length key + 1)) (set (keyed ++ drop (length key) out) (length key) tab) digits (decimal n) q (omega arith)
     ∙ rw tabbed (over-behind (key ++ (tab ∷ [])) (decimal n) out (length key + 1) wide) in
     let whole : length ((key ++ (tab ∷ [])) ++ decimal n) ≡ length key + 1 + k = length-append (key ++ (tab ∷ [])) (decimal n) ∙ omega arith in
     ap (λ (o : List ℕ). set o (length key + 1 + k) line_feed) numbered

@@ -19,12 +19,6 @@ use Rattle.image.proofs.build.Kinds as build-kinds
 use Rattle.image.proofs.build.Reads as build-reads
 use Rattle.image.proofs.Laws.Build.{said-built-one}
 use Rattle.image.proofs.Laws.AcceptAnswer.{said-checked-one}
-use Rattle.image.specs.contracts.answers.Checked.number as checked-number
-use Rattle.image.proofs.answers.Checked.number.Kinds as checked-number-kinds
-use Rattle.image.proofs.answers.Checked.number.Reads as checked-number-reads
-use Rattle.image.specs.contracts.answers.Built.number as built-number
-use Rattle.image.proofs.answers.Built.number.Kinds as built-number-kinds
-use Rattle.image.proofs.answers.Built.number.Reads as built-number-reads
 use Rattle.image.specs.contracts.buffers.words_for as words-for
 use Rattle.image.proofs.buffers.words_for.Kinds as words-for-kinds
 use Rattle.image.proofs.buffers.words_for.Reads as words-for-reads
@@ -32,7 +26,7 @@ use Rattle.image.proofs.buffers.words_for.Reads as words-for-reads
 module _ (κs : Lfts 3) where
   pub accept-determined : (a : ArgsD accept.signature κs) (r₁ r₂ : ResD accept.signature κs) (s₁ s₂ : AtExit (ended_of 3 accept-kinds.ps accept-kinds.r) κs)
       → accept-reads.Post κs a r₁ s₁ → accept-reads.Post κs a r₂ s₂ → r₁ ≡ r₂
-  accept-determined a r₁ r₂ s₁ s₂ p q = said-checked-one r₁ r₂ (p.0 ∙ sym q.0)
+  accept-determined a r₁ r₂ s₁ s₂ p q = p.0 ∙ sym q.0
 
   pub is-image-determined : (a : ArgsD is_image.signature κs) (r₁ r₂ : ResD is_image.signature κs) (s₁ s₂ : AtExit (ended_of 3 is-image-kinds.ps is-image-kinds.r) κs)
       → is-image-reads.Post κs a r₁ s₁ → is-image-reads.Post κs a r₂ s₂ → r₁ ≡ r₂
@@ -53,14 +47,6 @@ build-determined κs a r₁ r₂ s₁ s₂ p q = (
   p.1.1.1.0 ∙ sym q.1.1.1.0,
   p.1.1.1.1 ∙ sym q.1.1.1.1,
 )
-
-module _ (κs : Lfts 0) (a : ArgsD checked-number.signature κs) (r₁ r₂ : ResD checked-number.signature κs) (s₁ s₂ : AtExit (ended_of 0 checked-number-kinds.ps checked-number-kinds.r) κs) where
-  pub checked-number-determined : checked-number-reads.Post κs a r₁ s₁ → checked-number-reads.Post κs a r₂ s₂ → r₁ ≡ r₂
-  checked-number-determined p q = p ∙ sym q
-
-module _ (κs : Lfts 0) (a : ArgsD built-number.signature κs) (r₁ r₂ : ResD built-number.signature κs) (s₁ s₂ : AtExit (ended_of 0 built-number-kinds.ps built-number-kinds.r) κs) where
-  pub built-number-determined : built-number-reads.Post κs a r₁ s₁ → built-number-reads.Post κs a r₂ s₂ → r₁ ≡ r₂
-  built-number-determined p q = p ∙ sym q
 
 module _ (κs : Lfts 0) (a : ArgsD words-for.signature κs) (r₁ r₂ : ResD words-for.signature κs) (s₁ s₂ : AtExit (ended_of 0 words-for-kinds.ps words-for-kinds.r) κs) where
   pub words-for-determined : words-for-reads.Post κs a r₁ s₁ → words-for-reads.Post κs a r₂ s₂ → r₁ ≡ r₂

@@ -16,10 +16,11 @@ use lib.Dec.{eqb}
 use Rattle.keymap.specs.Refusals.{refuses}
 use Rattle.keymap.specs.declared.refusals.Refusal.{Refusal}
 use Rattle.keymap.specs.Image.{Image}
-use Rattle.image.specs.declared.answers.Checked.{Checked}
+use Rattle.std.specs.Prelude.{Result, Ok, Err}
+use Rattle.keymap.proofs.Laws.Answers.{said-one}
 use Rattle.image.specs.Accept.{OfMap, LentSlices}
 use Rattle.image.specs.AcceptTest.{image_test}
-use Rattle.image.specs.AcceptAnswer.{said_checked, accept_says}
+use Rattle.image.specs.AcceptAnswer.{accepted_if, said_checked, accept_says}
 use Rattle.image.proofs.Laws.Accept.{accepted-iff}
 use Rattle.image.proofs.Laws.Passed.{image_test-iff}
 
@@ -58,18 +59,17 @@ accept-means-none i l = go (told i l)
     go (Told.image-of e m) = (λ h. let y = accept_says-accepted i e in let z : ◌≡◌ {A = ℕ} 0 6 = cc in absurd (omega arith), λ n. absurd (n m))
     go (Told.no-image e n) = (λ h. n, λ m. accept_says-refused i e)
 
-pub said-means-map : (i : Image) → LentSlices i → (r : Checked) → said_checked r ≡ accept_says i → (said_checked r ≡ 0 ∷ []) ↔ OfMap i
+pub said-means-map : (i : Image) → LentSlices i → (r : Result (Unit {0}) Refusal) → said_checked r ≡ accept_says i → (said_checked r ≡ 0 ∷ []) ↔ OfMap i
 said-means-map i l r e = (λ h. (accept-means-map i l).0 (sym e ∙ h), λ m. e ∙ (accept-means-map i l).1 m)
 
--- the answer that is heard
-heard_checked : List ℕ → Checked
-heard_checked [] = Checked.NotAnImage
-heard_checked (n ∷ ns) = cond (eqb n 0) Checked.Accepted Checked.NotAnImage
+pub said-checked-one : (r s : Result (Unit {0}) Refusal) → said_checked r ≡ said_checked s → r ≡ s
+said-checked-one = said-one (λ u. []) (λ x y e. refl)
 
-checked-heard : (r : Checked) → heard_checked (said_checked r) ≡ r
-unfolding heard_checked
-checked-heard Checked.Accepted = refl
-checked-heard Checked.NotAnImage = refl
+-- the test by the answer
+pub accepted-ok : (t : Bool) (u : Unit {0}) → accepted_if t ≡ Ok u → t ≡ true
+accepted-ok true u e = refl
+accepted-ok false u e = let z : ◌≡◌ {A = ℕ} 0 1 = cc in absurd (omega arith)
 
-pub said-checked-one : (r s : Checked) → said_checked r ≡ said_checked s → r ≡ s
-said-checked-one r s e = sym (checked-heard r) ∙ ap heard_checked e ∙ checked-heard s
+pub accepted-err : (t : Bool) (r : Refusal) → accepted_if t ≡ Err r → (t ≡ false) × (r ≡ Refusal.NotAnImage)
+accepted-err false r e = (refl, let z : Refusal.NotAnImage ≡ r = cc in sym z)
+accepted-err true r e = let z : ◌≡◌ {A = ℕ} 0 1 = cc in absurd (omega arith)

@@ -2,8 +2,7 @@
 -- and 4 here. The first refusal stops it".
 -- What the text is answered is told without the pool in `TextAnswers`; here is what is left of the pool.
 --
---     said_filled            the answers: 0 where every line is pushed, the number and the line of a refusal;
---                            `said_line`: of one line
+--     said_filled            the answers: 0 where every line is pushed, the number and the line of a refusal
 --     line_says, line_pool   one line, by its entry: the refusal's number, or 0, and the pool that is left
 --     fill_from, left_from   lines in turn, the first of them with a given number
 --     fill_pool              what a pool is after a reset and the lines of a text
@@ -27,10 +26,6 @@ use Rattle.catalogue.specs.TextAnswers.{text_map}
 abbrev pub said_filled : Result (Unit {0}) Refused → List ℕ
 said_filled (Ok u) = 0 ∷ []
 said_filled (Err r) = refusal_number r.refusal ∷ r.line ∷ []
-
-abbrev pub said_line : Result (Unit {0}) Refusal → List ℕ
-said_line (Ok u) = 0 ∷ []
-said_line (Err r) = refuses r
 
 abbrev pub line_says : Pool → Option Entry → List ℕ
 line_says p None = refuses Refusal.BadLine

@@ -3,14 +3,13 @@ ghost use Rattle.std.specs.Prelude.{◌≡◌, [], ◌∷◌};
 ghost use Rattle.pool.specs.Answers.{said_pushed};
 ghost use Rattle.lines.specs.TabLine.{tab_entry};
 ghost use Rattle.lines.specs.Text.{lines_of, entry_lines};
-ghost use Rattle.catalogue.specs.Filling.{said_filled, said_line, line_says, line_pool, fill_from, left_from, fill_pool, HeldIf};
+ghost use Rattle.catalogue.specs.Filling.{said_filled, line_says, line_pool, fill_from, left_from, fill_pool, HeldIf};
 ghost use Rattle.catalogue.specs.TextAnswers.{text_from};
 ghost use Rattle.catalogue.specs.Limits.{program_capacity};
 
 use crate::sizes::POOL_WORDS;
 use keymap::Refusal;
 use lines::answers::Line;
-use pool::answers::Pushed;
 
 // The first line that is refused, by its number from 1. The lines before it are pushed.
 #[derive(Clone, Copy)]
@@ -25,7 +24,8 @@ pub fn fill(text: &[u8], pool: &mut [u32; POOL_WORDS]) -> Result<(), Refused>
     ensures left { pool.new ≡ fill_pool pool.old text.now }
     ensures held { HeldIf result pool.new text.now }
 {
-    pool::reset(pool);
+    // no pool of this length is refused
+    let _ = pool::reset(pool);
     push_lines(text, pool)
 }
 
@@ -48,21 +48,9 @@ fn push_lines(text: &[u8], pool: &mut [u32]) -> Result<(), Refused>
 
 // Pushes the entry of a line. A line that breaks the rule is not pushed.
 fn push_line(line: &[u8], pool: &mut [u32]) -> Result<(), Refusal>
-    ensures answer { said_line result ≡ line_says pool.old (tab_entry line.now) }
+    ensures answer { said_pushed result ≡ line_says pool.old (tab_entry line.now) }
     ensures left { pool.new ≡ line_pool pool.old (tab_entry line.now) }
 {
     let entry = lines::tab_line(line)?;
-    pushed(pool::push(pool, lines::tab_line_key(line), entry.number))
-}
-
-fn pushed(answer: Pushed) -> Result<(), Refusal>
-    ensures { said_line result ≡ said_pushed answer }
-{
-    match answer {
-        Pushed::Done => Ok(()),
-        Pushed::PoolTooSmall => Err(Refusal::PoolTooSmall),
-        Pushed::NotAPool => Err(Refusal::NotAPool),
-        Pushed::EmptyKey => Err(Refusal::EmptyKey),
-        Pushed::NoRoom => Err(Refusal::NoRoom),
-    }
+    pool::push(pool, lines::tab_line_key(line), entry.number)
 }

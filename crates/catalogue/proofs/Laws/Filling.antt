@@ -1,6 +1,6 @@
 -- Laws of lines pushed in turn. An accepted line is an insert of its entry, so that lines accepted whole leave the map of their entries.
 --
---     number-range                     the numbers of refusals go from 1 to 9
+--     not-accepted                     a refusal is told from an answer
 --     entry-said, entry-none           the entry of a line, by what `tab_line` answered
 --     line_refused                     a refused line leaves the pool as it was
 --     fill_end, fill-goes, fill_stops  the equations of `fill_from` and `left_from`, by what one line says
@@ -44,8 +44,8 @@ use Rattle.catalogue.specs.Filling.{said_filled, line_says, line_pool, fill_from
 
 -- ---- one line
 
--- a refusal is told from an answer
-pub number-range : (r : Refusal) → (1 ≤ refusal_number r) × (refusal_number r ≤ 9)
+-- the numbers of refusals
+number-range : (r : Refusal) → (1 ≤ refusal_number r) × (refusal_number r ≤ 9)
 number-range Refusal.PoolTooSmall = (lit≤ tt, lit≤ tt)
 number-range Refusal.NotAPool = (lit≤ tt, lit≤ tt)
 number-range Refusal.EmptyKey = (lit≤ tt, lit≤ tt)
@@ -55,6 +55,9 @@ number-range Refusal.NotAnImage = (lit≤ tt, lit≤ tt)
 number-range Refusal.BadPlace = (lit≤ tt, lit≤ tt)
 number-range Refusal.KeyRoom = (lit≤ tt, lit≤ tt)
 number-range Refusal.BadLine = (lit≤ tt, lit≤ tt)
+
+pub not-accepted : (r : Refusal) → accepted (refuses r) ≡ false
+not-accepted r = ne_eqb (refusal_number r) 0 (λ z. omega (arith, z, number-range r))
 
 pub entry-said : (line : List ℕ) (n v : ℕ) → tab_line_says line ≡ 0 ∷ n ∷ v ∷ [] → tab_entry line ≡ Some (tab_line_key line, v)
 unfolding tab_line_says tab_line_key
@@ -93,7 +96,7 @@ module _ (n : ℕ) (p : Pool) (l : List ℕ) (ls : List (List ℕ)) where
   pub fill_stops : (r : Refusal) → refuses r ≡ line_says p (tab_entry l) → (refusal_number r ∷ n ∷ [] ≡ fill_from n p (l ∷ ls)) × (line_pool p (tab_entry l) ≡ left_from p (l ∷ ls))
   unfolding fill_from left_from
   fill_stops r said =
-      let f : accepted (line_says p (tab_entry l)) ≡ false = ap accepted (sym said) ∙ ne_eqb (refusal_number r) 0 (λ z. omega (arith, z, number-range r)) in
+      let f : accepted (line_says p (tab_entry l)) ≡ false = ap accepted (sym said) ∙ not-accepted r in
       (rw f (ap (λ (s : List ℕ). s ++ (n ∷ [])) said), rw f (line_refused p (tab_entry l) f))
 
 -- ---- bytes

@@ -18,6 +18,6 @@ returns c =
     let p = c.args.pool.now in
     let entry = entry-said c.args.line.now _ _ (sym c.in_ok-entry.ensures) in
     let key = c.tab_line_key.ensures.key in record {
-      answer = c.pushed.ensures ∙ c.push.ensures.answer ∙ ap (push_says p) key ∙ sym (ap (line_says p) entry);
+      answer = c.push.ensures.answer ∙ ap (push_says p) key ∙ sym (ap (line_says p) entry);
       left = c.push.ensures.left ∙ ap (λ (k : Key). push_pool p k c.in_ok-entry.entry.number) key ∙ sym (ap (line_pool p) entry);
     }

@@ -29,6 +29,8 @@ pub fn put_value(value: u32, at: usize, out: &mut [u8]) -> usize
 }
 
 // Puts the digits of a number at a position and answers where they end.
+// `lines` puts digits too, those of an entry's number of 32 bits. It stays a function beside it: a line's number is a
+// usize, and for it `lines` would have to open a public call of any number, with a promise that nobody else asks for.
 fn put_number(number: u64, at: usize, out: &mut [u8]) -> usize
     requires { at + length (decimal number) ≤ length out.old }
     ensures answer { result ≡ at + length (decimal number) }

@@ -30,7 +30,7 @@ fn record_at(queue: &[u32], k: usize) -> u32
 }
 
 // Puts the children of record c into the queue, from entry `tail` on, and a one for each into the bits, from place `at`
-// on. How many they are.
+// on. How many they are: only the 0 that ends their chain shows that, as it is the pool's format, so a `while`.
 fn queue_children(
     pool: &[u32],
     c: u32,

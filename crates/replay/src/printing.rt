@@ -1,93 +1,89 @@
 // What an answer is written with: words, numbers in decimal and bytes in hexadecimal, each with a space before it.
 // A write that fails is passed over: what comes behind it is written all the same.
-use crate::text::{letter, line_at};
+use crate::text::Case;
+use std::fmt::Display;
 
-// Where each word begins in the list of words.
-pub const REFUSED: usize = 0;
+pub const REFUSED: &[u8] = b" refused";
 
-pub const DONE: usize = 9;
+pub const DONE: &[u8] = b" done";
 
-pub const LABELS: usize = 15;
+pub const LABELS: &[u8] = b" labels";
 
-pub const VALUES: usize = 23;
+pub const VALUES: &[u8] = b" values";
 
-pub const WORDS: usize = 31;
+pub const WORDS: &[u8] = b" words";
 
-pub const SCRATCH: usize = 38;
+pub const SCRATCH: &[u8] = b" scratch";
 
-pub const ACCEPTED: usize = 47;
+pub const ACCEPTED: &[u8] = b" accepted";
 
-pub const NONE: usize = 57;
+pub const NONE: &[u8] = b" none";
 
-pub const YES: usize = 63;
+pub const YES: &[u8] = b" yes";
 
-pub const NO: usize = 68;
+pub const NO: &[u8] = b" no";
 
-pub const BAR: usize = 72;
+pub const BAR: &[u8] = b" |";
 
-pub const END: usize = 75;
+pub const END: &[u8] = b" end";
 
-pub const TOP: usize = 80;
+pub const TOP: &[u8] = b" top";
 
-pub const LAST: usize = 85;
+pub const LAST: &[u8] = b" last";
 
-pub const FINISHED: usize = 91;
+pub const FINISHED: &[u8] = b" finished";
 
-pub const AT: usize = 101;
+pub const AT: &[u8] = b" at";
 
-pub const PREFIX: usize = 105;
+pub const PREFIX: &[u8] = b" prefix";
 
-pub const MATCH: usize = 113;
+pub const MATCH: &[u8] = b" match";
 
-pub const BOTH: usize = 120;
+pub const BOTH: &[u8] = b" both";
 
-pub const OK: usize = 126;
+pub const OK: &[u8] = b" ok";
 
-pub const ERR: usize = 130;
+pub const ERR: &[u8] = b" err";
 
 pub fn text(rt: &impl Print, bytes: &[u8]) {
     let _ = rt.write_all(bytes);
-}
-
-pub fn word(rt: &impl Print, begin: usize) {
-    text(
-        rt,
-        line_at(
-            b" refused\n done\n labels\n values\n words\n scratch\n accepted\n none\n yes\n no\n |\n end\n top\n last\n finished\n at\n prefix\n match\n both\n ok\n err",
-            begin,
-        ),
-    );
 }
 
 pub fn byte(rt: &impl Print, b: u8) {
     text(rt, &[b]);
 }
 
-pub fn number(rt: &impl Print, n: u64) {
+pub fn number<N: Display + Drop>(rt: &impl Print, n: N) {
     let _ = print!(rt; " {n}");
 }
 
+pub fn show<T: Display>(rt: &impl Print, all: &[T]) {
+    for entry in all {
+        number(rt, entry);
+    }
+}
+
 pub fn refused(rt: &impl Print, refusal: u32) {
-    word(rt, REFUSED);
-    number(rt, refusal as u64);
+    text(rt, REFUSED);
+    number(rt, refusal);
 }
 
 // What begins an answer: the letter of the case. A title is written as it stands.
-pub fn head(rt: &impl Print, line: &[u8]) {
-    if letter(line) == b'#' {
-        text(rt, line);
-        return;
+pub fn head(rt: &impl Print, case: Case) {
+    if case.letter == b'#' {
+        text(rt, case.line);
+    } else {
+        byte(rt, case.letter);
     }
-    byte(rt, letter(line));
 }
 
 // The word, or a refusal by its number.
-pub fn done(rt: &impl Print, begin: usize, refusal: u32) {
+pub fn done(rt: &impl Print, word: &[u8], refusal: u32) {
     if refusal == 0 {
-        word(rt, begin);
-        return;
+        text(rt, word);
+    } else {
+        refused(rt, refusal);
     }
-    refused(rt, refusal);
 }
 
 // Nothing where there are no bytes.

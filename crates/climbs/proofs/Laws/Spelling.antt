@@ -1,7 +1,7 @@
 -- The labels on the way up from a node, in a buffer. On an image that some map has they are the bytes of the node's path: a node but the root has its last byte
 -- for its label, and its parent the bytes before, so the labels met on the way are the bytes from the last to the first.
 --
---     has_entry-low, -upto, -told             the test of an entry
+--     has_entry-upto                          the test of an entry
 --     spelled_from-done, -lost, -bare, -next  the climb, by what is left and where it is
 --     spelled_by-short, spelled_by-room       the buffer, by its room
 --     spell-path                              on an image that some map has, the last bytes of the path
@@ -46,20 +46,9 @@ use Rattle.climbs.proofs.Laws.MapClimb.{step-up, upper-path}
 -- ---- by cases
 
 module _ (n k : ℕ) where
-  pub has_entry-low : k < 2 → has_entry n k ≡ false
-  unfolding has_entry
-  has_entry-low h = rw (lt-leb 2 k h)
-
   pub has_entry-upto : 2 ≤ k → has_entry n k ≡ leb k (n + 1)
   unfolding has_entry
   has_entry-upto h = rw (le-leb 2 k h)
-
-  pub has_entry-told : has_entry n k ≡ true → (2 ≤ k) × (k ≤ n + 1)
-  has_entry-told e = go (dec_le 2 k)
-    where
-      go : Dec (2 ≤ k) → (2 ≤ k) × (k ≤ n + 1)
-      go (yes l) = (l, leb-true k (n + 1) (sym (has_entry-upto l) ∙ e))
-      go (no l) = absurd (true≢false (sym e ∙ has_entry-low (lt_of_not-le l)))
 
 module _ (ls : List ℕ) (b : ℕ → ℕ) (len : ℕ) where
   pub spelled_from-done : (at : Option ℕ) (out : List ℕ) → spelled_from ls b len 0 at out ≡ out

@@ -1,6 +1,6 @@
 -- A stand that knows its zero goes where the rule goes, on any bits: the zero behind the children is the next node's, and a child's zero lies ahead.
 --
---     is_stand-far, -zero, -small     a place, by the first test that fails
+--     is_stand-far, -node             a place, by whether it is inside; `is_stand-told`: what the test tells
 --     kids_from-none, kids_from-some  the children of a stand, by that test
 --     kids-numbered                   their numbers
 --     kids-rule                       they are the node's
@@ -46,10 +46,6 @@ module _ (len k p : ℕ) where
   is_stand-far h = rw (le-ltb p len h)
 
   module _ (inside : p < len) where
-    pub is_stand-zero : k ≡ 0 → is_stand len k p ≡ false
-    unfolding is_stand
-    is_stand-zero h = rw (lt-ltb p len inside, lt-leb 1 k (omega arith))
-
     pub is_stand-node : ¬ (k ≡ 0) → is_stand len k p ≡ leb k (p + 1)
     unfolding is_stand
     is_stand-node h = rw (lt-ltb p len inside, le-leb 1 k (omega arith))

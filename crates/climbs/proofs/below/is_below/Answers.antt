@@ -10,14 +10,6 @@ use Rattle.climbs.proofs.Laws.Below.{below_by-here, below_by-lost, below_by-up}
 use Rattle.climbs.proofs.below.is_below.Goals.{In-Some}
 use Rattle.climbs.proofs.below.is_below.Goals as goal
 
-pub loop-at-init : goal.loop-at-init
-loop-at-init c =
-    let a = c.args in
-    let b = bit a.words.now in
-    let told = c.perch_at-at.ensures in
-    let own = ap (λ (p : Perch). p.node) told in
-    (told ∙ ap (perch_at b a.len) (sym own), ap (below_by b a.len a.top) (sym own))
-
 pub returns-in_default : goal.returns-in_default
 returns-in_default c =
     let a = c.args in

@@ -3,7 +3,7 @@ use mathlib.Core.Path.{◌≡◌, refl, ap, ◌∙◌, sym}
 use mathlib.Core.List.{List, [], ◌∷◌, ◌++◌, append_assoc}
 use Prim.Native.Nat.{ℕ, ◌+◌, ◌-◌, ◌≤◌}
 use native.Mathlib.Omega.{arith}
-use lib.ListN.{length, take, drop, set, length-append, length-take, length-drop, length-set}
+use lib.ListN.{length, drop, set, length-append}
 use borrow.Rule.Slice.PartMut.{put_mid}
 use Rattle.keymap.specs.Buffers.{over}
 use Rattle.lines.specs.Bytes.{tab, line_feed}
@@ -32,11 +32,6 @@ put key keyed digits out n k e h p q =
     ap (λ (o : List ℕ). set o (length key + 1 + k) line_feed) numbered
     ∙ over-set ((key ++ (tab ∷ [])) ++ decimal n) out (length key + 1 + k) line_feed (sym whole) (omega arith)
     ∙ ap (λ (t : List ℕ). over (t ++ (line_feed ∷ [])) out) (append_assoc key (tab ∷ []) (decimal n))
-
-pub put_decimal-requires : goal.put_decimal-requires
-put_decimal-requires c =
-    let a = c.args in
-    simp (length-take, length-drop, length-set, length-append, c.copy_from_slice.ensures.after) (omega arith)
 
 pub returns : goal.returns
 returns c =

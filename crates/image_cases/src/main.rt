@@ -10,7 +10,7 @@
 
 ghost use Rattle.std.specs.Prelude.{◌≤◌, length};
 
-use image::answers::Built;
+use keymap::Refusal;
 use replay::entries::store;
 use replay::lists::read_list;
 use replay::memory::{LONGEST, LentImage};
@@ -28,9 +28,14 @@ const ENTRIES: usize = 4096;
 
 const WORDS: usize = 129;
 
-fn built(rt: &impl Print, answer: Built) {
-    number(rt, answer.number());
-    if let Built::Nodes(n) = answer {
+// The number of a refusal, 0 where there is none.
+fn status<T: Drop>(answer: Result<T, Refusal>) -> u32 {
+    answer.err().map_or(0, |refusal| refusal.number())
+}
+
+fn built(rt: &impl Print, answer: Result<u32, Refusal>) {
+    number(rt, status(answer));
+    if let Ok(n) = answer {
         number(rt, n);
     }
 }
@@ -71,8 +76,10 @@ fn told(rt: &impl Print, letter: u8, image: LentImage, scratch: &[u32]) {
         show_all(rt, image, scratch);
     }
     text(rt, BAR);
-    let accepted = image::accept(image.labels, image.values, image.words);
-    number(rt, accepted.err().map_or(0, |refusal| refusal.number()));
+    number(
+        rt,
+        status(image::accept(image.labels, image.values, image.words)),
+    );
     byte(rt, b'\n');
 }
 

@@ -1,6 +1,7 @@
 // What an answer is written with: words, numbers in decimal and bytes in hexadecimal, each with a space before it.
 // A write that fails is passed over: what comes behind it is written all the same.
-ghost use Rattle.std.specs.Prelude.{◌≡◌, None, MatchOption, result_ok};
+ghost use Rattle.std.specs.Prelude.{◌≡◌, None, MatchOption};
+ghost use Rattle.std.specs.Result.{result_ok};
 
 use crate::text::Case;
 use keymap::Refusal;
@@ -88,12 +89,16 @@ pub fn accepted<T>(rt: &impl Print, answer: Result<T, Refusal>) -> Option<T>
 pub fn found<N: Display + Copy>(rt: &impl Print, answer: Result<Option<N>, Refusal>) -> Option<N>
     ensures { MatchOption (result_ok answer) (result ≡ None) (λ found. result ≡ found) }
 {
-    let found = accepted(rt, answer)?;
-    match found {
-        Some(n) => number(rt, n),
-        None => text(rt, NONE),
+    match accepted(rt, answer)? {
+        Some(n) => {
+            number(rt, n);
+            Some(n)
+        }
+        None => {
+            text(rt, NONE);
+            None
+        }
     }
-    found
 }
 
 // What begins an answer: the letter of the case. A title is written as it stands.

@@ -13,8 +13,6 @@ use Rattle.climbs.specs.contracts.below.is_below
 use Rattle.climbs.proofs.below.is_below.Reads as is-below-reads
 use Rattle.climbs.specs.contracts.order.next_valued
 use Rattle.climbs.proofs.order.next_valued.Reads as next-valued-reads
-use Rattle.climbs.specs.contracts.answers.Spelled.number as spelled-number
-use Rattle.climbs.proofs.answers.Spelled.number.Reads as spelled-number-reads
 
 pub perch-at-asks-nothing : (κs : Lfts 1) (a : ArgsD perch_at.signature κs) → perch-at-reads.Pre κs a
 perch-at-asks-nothing κs a = tt
@@ -33,6 +31,3 @@ is-below-asks-nothing κs a = tt
 
 pub next-valued-asks-nothing : (κs : Lfts 3) (a : ArgsD next_valued.signature κs) → next-valued-reads.Pre κs a
 next-valued-asks-nothing κs a = tt
-
-pub spelled-number-asks-nothing : (κs : Lfts 0) (a : ArgsD spelled-number.signature κs) → spelled-number-reads.Pre κs a
-spelled-number-asks-nothing κs a = tt

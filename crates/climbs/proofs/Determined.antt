@@ -23,9 +23,6 @@ use Rattle.climbs.proofs.below.is_below.Reads as is-below-reads
 use Rattle.climbs.specs.contracts.order.next_valued
 use Rattle.climbs.proofs.order.next_valued.Kinds as next-valued-kinds
 use Rattle.climbs.proofs.order.next_valued.Reads as next-valued-reads
-use Rattle.climbs.specs.contracts.answers.Spelled.number as spelled-number
-use Rattle.climbs.proofs.answers.Spelled.number.Kinds as spelled-number-kinds
-use Rattle.climbs.proofs.answers.Spelled.number.Reads as spelled-number-reads
 
 pub perch-at-determined : (κs : Lfts 1) (a : ArgsD perch_at.signature κs) (r₁ r₂ : ResD perch_at.signature κs) (s₁ s₂ : AtExit (ended_of 1 perch-at-kinds.ps perch-at-kinds.r) κs)
     → perch-at-reads.Post κs a r₁ s₁ → perch-at-reads.Post κs a r₂ s₂ → r₁ ≡ r₂
@@ -50,7 +47,3 @@ is-below-determined κs a r₁ r₂ s₁ s₂ p q = p ∙ sym q
 pub next-valued-determined : (κs : Lfts 3) (a : ArgsD next_valued.signature κs) (r₁ r₂ : ResD next_valued.signature κs) (s₁ s₂ : AtExit (ended_of 3 next-valued-kinds.ps next-valued-kinds.r) κs)
     → next-valued-reads.Post κs a r₁ s₁ → next-valued-reads.Post κs a r₂ s₂ → r₁ ≡ r₂
 next-valued-determined κs a r₁ r₂ s₁ s₂ p q = p ∙ sym q
-
-pub spelled-number-determined : (κs : Lfts 0) (a : ArgsD spelled-number.signature κs) (r₁ r₂ : ResD spelled-number.signature κs) (s₁ s₂ : AtExit (ended_of 0 spelled-number-kinds.ps spelled-number-kinds.r) κs)
-    → spelled-number-reads.Post κs a r₁ s₁ → spelled-number-reads.Post κs a r₂ s₂ → r₁ ≡ r₂
-spelled-number-determined κs a r₁ r₂ s₁ s₂ p q = p ∙ sym q

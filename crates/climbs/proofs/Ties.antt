@@ -2,10 +2,9 @@
 -- Assumes nothing.
 use mathlib.Core.Path.{◌≡◌}
 use Rattle.keymap.specs.Contract.{Tells}
-use Rattle.keymap.specs.Answers.{answer_number}
 use Rattle.keymap.specs.Bits.{bit}
 use Rattle.climbs.specs.Perches.{perch_at, parent_from, depth_by}
-use Rattle.climbs.specs.Spelling.{spelled_by, said_spelled}
+use Rattle.climbs.specs.Spelling.{spelled_by}
 use Rattle.climbs.specs.Below.{below_by}
 use Rattle.climbs.specs.Order.{next_by, given_of}
 use Rattle.climbs.proofs.perches.perch_at.Kinds as perch-at-kinds
@@ -20,8 +19,6 @@ use Rattle.climbs.proofs.below.is_below.Kinds as is-below-kinds
 use Rattle.climbs.proofs.below.is_below.Reads as is-below-reads
 use Rattle.climbs.proofs.order.next_valued.Kinds as next-valued-kinds
 use Rattle.climbs.proofs.order.next_valued.Reads as next-valued-reads
-use Rattle.climbs.proofs.answers.Spelled.number.Kinds as spelled-number-kinds
-use Rattle.climbs.proofs.answers.Spelled.number.Reads as spelled-number-reads
 
 pub perch-at-says : Tells 1 perch-at-kinds.ps perch-at-kinds.r perch-at-reads.Post (λ κs a r s. r ≡ perch_at (bit a.0.now) a.1.0 a.1.1.0)
 perch-at-says κs a r s p = p
@@ -40,6 +37,3 @@ is-below-says κs a r s p = p
 
 pub next-valued-says : Tells 3 next-valued-kinds.ps next-valued-kinds.r next-valued-reads.Post (λ κs a r s. r ≡ given_of (next_by a.0.now a.1.0.now (bit a.1.1.0.now) a.1.1.1.0 a.1.1.1.1.0 a.1.1.1.1.1.0))
 next-valued-says κs a r s p = p
-
-pub spelled-number-says : Tells 0 spelled-number-kinds.ps spelled-number-kinds.r spelled-number-reads.Post (λ κs a r s. r ≡ answer_number (said_spelled a.0))
-spelled-number-says κs a r s p = p

@@ -8,13 +8,13 @@
 --     beside_from    its next sibling
 --     climb_from     the next sibling of the nearest that has one
 --     advance_from   the next perch below a top
---     moved_at       the perch at the node where a move ended
 -- Assumes nothing.
 use Rattle.std.specs.Prelude.{ℕ, zero, suc, ◌+◌, ◌-◌, Bool, cond, ◌&&◌, eqb, ltb, leb, Option, None, Some}
+use Rattle.std.specs.Option.{option_or}
 use Rattle.louds.specs.Select.{zero_from}
 use Rattle.walks.specs.Rule.{counts_to}
 use Rattle.climbs.specs.declared.perches.Perch.{Perch}
-use Rattle.climbs.specs.Perches.{perch_at, parent_from}
+use Rattle.climbs.specs.Perches.{parent_from}
 use Rattle.climbs.specs.Order.{one_behind}
 
 -- p + 1 - m zeros stand before the m-th one, if it is at p
@@ -37,24 +37,16 @@ beside_from b len last at =
     cond (ltb at.node last && one_behind b len at.one)
     (Some (record { node = at.node + 1; one = at.one + 1 })) None
 
-abbrev pub or_moved : Option Perch → Option Perch → Option Perch
-or_moved (Some p) r = Some p
-or_moved None r = r
-
 -- from where a climb is, up to the top; the last number bounds the steps
 unfoldable pub climbed_rise : (ℕ → ℕ) → ℕ → ℕ → ℕ → ℕ → Option Perch → Option Perch
 climbed_rise b len last top zero at = None
 climbed_rise b len last top (suc left) None = None
 climbed_rise b len last top (suc left) (Some at) =
     cond (eqb at.node top) None
-    (or_moved (beside_from b len last at) (climbed_rise b len last top left (parent_from b len at)))
+    (option_or (beside_from b len last at) (climbed_rise b len last top left (parent_from b len at)))
 
 unfoldable pub climb_from : (ℕ → ℕ) → ℕ → ℕ → ℕ → Perch → Option Perch
 climb_from b len last top at = climbed_rise b len last top (suc at.node) (Some at)
 
 abbrev pub advance_from : (ℕ → ℕ) → ℕ → ℕ → ℕ → Perch → Option Perch
-advance_from b len last top at = or_moved (first_from b len last at) (climb_from b len last top at)
-
-abbrev pub moved_at : (ℕ → ℕ) → ℕ → Option ℕ → Option Perch
-moved_at b len None = None
-moved_at b len (Some k) = Some (perch_at b len k)
+advance_from b len last top at = option_or (first_from b len last at) (climb_from b len last top at)

@@ -12,21 +12,16 @@
 --     given_by       an entry of the map as its node's number and value
 -- Assumes nothing.
 use Rattle.std.specs.Prelude.{ℕ, zero, suc, ◌+◌, Bool, cond, ◌&&◌, List, length, eqb, ltb, Option, None, Some}
+use Rattle.std.specs.Option.{option_or}
 use Rattle.keymap.specs.Key.{PrefixOf}
 use Rattle.keymap.specs.Map.{Entry, Map}
 use Rattle.keymap.specs.Paths.{IsNode, path_of, node_of}
 use Rattle.louds.specs.declared.answers.Children.{Children}
 use Rattle.louds.specs.Select.{one_at}
 use Rattle.louds.specs.Nodes.{children_of}
+use Rattle.walks.specs.declared.entries.KeyNode.{KeyNode}
 use Rattle.walks.specs.Rule.{counts_to, value_of_node}
 use Rattle.climbs.specs.Perches.{parent_by}
-use Rattle.climbs.specs.declared.order.Given.{Given}
-use Rattle.climbs.specs.declared.order.Given.TheVariants as gives
-
--- the first of two that is there
-abbrev pub or_else : {A : Type 0} → Option A → Option A → Option A
-or_else (Some k) o = Some k
-or_else None o = o
 
 abbrev pub first_of : ℕ → ℕ → Option Children → Option ℕ
 first_of last k None = None
@@ -51,14 +46,14 @@ unfoldable pub climbed_from : (ℕ → ℕ) → ℕ → ℕ → ℕ → ℕ → 
 climbed_from b len last top zero at = None
 climbed_from b len last top (suc left) None = None
 climbed_from b len last top (suc left) (Some k) =
-    cond (eqb k top) None (or_else (beside_by b len last k) (climbed_from b len last top left (parent_by b len k)))
+    cond (eqb k top) None (option_or (beside_by b len last k) (climbed_from b len last top left (parent_by b len k)))
 
 -- a parent's number is below its child's, so the node's own bounds the climb
 unfoldable pub climb_by : (ℕ → ℕ) → ℕ → ℕ → ℕ → ℕ → Option ℕ
 climb_by b len last top k = climbed_from b len last top (suc k) (Some k)
 
 unfoldable pub advance_by : (ℕ → ℕ) → ℕ → ℕ → ℕ → ℕ → Option ℕ
-advance_by b len last top k = or_else (first_by b len last k) (climb_by b len last top k)
+advance_by b len last top k = option_or (first_by b len last k) (climb_by b len last top k)
 
 abbrev pub with_value : ℕ → Option ℕ → Option (ℕ × ℕ)
 with_value k None = None
@@ -69,22 +64,22 @@ unfoldable pub sought_from : List ℕ → List ℕ → (ℕ → ℕ) → ℕ →
 sought_from ls vs b len top zero at = None
 sought_from ls vs b len top (suc left) None = None
 sought_from ls vs b len top (suc left) (Some k) =
-    or_else (with_value k (value_of_node ls vs k))
+    option_or (with_value k (value_of_node ls vs k))
     (sought_from ls vs b len top left (advance_by b len (length ls + 1) top k))
 
 -- there are n+1 nodes, so as many steps lead past all of them
 unfoldable pub next_by : List ℕ → List ℕ → (ℕ → ℕ) → ℕ → ℕ → ℕ → Option (ℕ × ℕ)
 next_by ls vs b len top k = sought_from ls vs b len top (length ls + 1) (advance_by b len (length ls + 1) top k)
 
-abbrev pub given_of : Option (ℕ × ℕ) → Given
-given_of None = gives.Nothing
-given_of (Some e) = gives.Entry e.0 e.1
+abbrev pub given_of : Option (ℕ × ℕ) → Option KeyNode
+given_of None = None
+given_of (Some e) = Some (record { node = e.0; value = e.1 })
 
 pub record UnderTop (m : Map) (top node : ℕ) : Type 0 where
   pub top-inside : IsNode m top
   pub inside : IsNode m node
   pub begins : PrefixOf (path_of m top) (path_of m node)
 
-abbrev pub given_by : Map → Option Entry → Given
-given_by m None = gives.Nothing
-given_by m (Some e) = gives.Entry (node_of m e.0) e.1
+abbrev pub given_by : Map → Option Entry → Option KeyNode
+given_by m None = None
+given_by m (Some e) = Some (record { node = node_of m e.0; value = e.1 })

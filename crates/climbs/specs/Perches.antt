@@ -7,6 +7,7 @@
 --     perch_at       a node with the place of its one, or the end
 --     has_parent     the test of a perch
 --     parent_from    the parent of a perch, as the code finds it: its one lies before the perch's
+--     perch_of       the perch at the node where a step ended
 -- Assumes nothing.
 use Rattle.std.specs.Prelude.{ℕ, zero, suc, ◌-◌, Bool, cond, ◌&&◌, ltb, leb, Option, None, Some, unwrap_or}
 use Rattle.louds.specs.Select.{one_at, one_back}
@@ -43,6 +44,6 @@ parent_from b len at =
     cond (has_parent len at.node at.one)
     (Some (record { node = up; one = unwrap_or (one_back b at.one (at.node - up)) at.one })) None
 
-abbrev pub rise_at : (ℕ → ℕ) → ℕ → Option ℕ → Option Perch
-rise_at b len None = None
-rise_at b len (Some k) = Some (perch_at b len k)
+abbrev pub perch_of : (ℕ → ℕ) → ℕ → Option ℕ → Option Perch
+perch_of b len None = None
+perch_of b len (Some k) = Some (perch_at b len k)

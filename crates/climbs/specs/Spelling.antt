@@ -6,14 +6,12 @@
 --     spelled_to     the buffer with those written to its front
 --     said_spelled   the answer of a call that writes a path, in 01's numbers
 -- Assumes nothing.
-use Rattle.std.specs.Prelude.{ℕ, zero, suc, ◌+◌, ◌-◌, Bool, cond, ◌&&◌, List, [], ◌∷◌, ◌++◌, length, get_or, drop, set, leb, Option, None, Some}
+use Rattle.std.specs.Prelude.{ℕ, zero, suc, ◌+◌, ◌-◌, Bool, cond, ◌&&◌, List, [], ◌∷◌, ◌++◌, length, get_or, drop, set, leb, Option, None, Some, Result, Ok, Err}
 use Rattle.keymap.specs.Key.{Key}
 use Rattle.keymap.specs.Label.{label_in}
 use Rattle.keymap.specs.Refusals.{refuses}
-use Rattle.keymap.specs.declared.refusals.Refusal.TheVariants.{NotAnImage, BadPlace, KeyRoom}
+use Rattle.keymap.specs.declared.refusals.Refusal.{Refusal}
 use Rattle.climbs.specs.Perches.{parent_by}
-use Rattle.climbs.specs.declared.answers.Spelled.{Spelled}
-use Rattle.climbs.specs.declared.answers.Spelled.TheVariants as spelled
 
 -- of n entries; node m of 2 or more has entry m-2
 unfoldable pub has_entry : ℕ → ℕ → Bool
@@ -41,8 +39,6 @@ abbrev pub spelled_to : ℕ → Key → List ℕ → List ℕ
 spelled_to n p out = last_bytes n p ++ drop n out
 
 -- a refusal is its number alone; else 0, and how many bytes were written
-abbrev pub said_spelled : Spelled → List ℕ
-said_spelled (spelled.Wrote n) = 0 ∷ n ∷ []
-said_spelled spelled.NotAnImage = refuses NotAnImage
-said_spelled spelled.BadPlace = refuses BadPlace
-said_spelled spelled.KeyRoom = refuses KeyRoom
+abbrev pub said_spelled : Result ℕ Refusal → List ℕ
+said_spelled (Ok n) = 0 ∷ n ∷ []
+said_spelled (Err r) = refuses r

@@ -3,7 +3,6 @@
 // what the map says (proofs/Laws/MapClimb).
 #![tactic(auto)]
 
-pub mod answers;
 pub mod below;
 pub mod order;
 pub mod perches;

@@ -12,45 +12,27 @@ ghost use Rattle.climbs.specs.Moves.{leads, first_from, beside_from, climb_from,
 
 use crate::perches::{Perch, parent_of, perch_at};
 use louds::{bit_at, zero_from};
-use walks::entries::{counts_to, value_at};
+use walks::entries::{KeyNode, counts_to, value_at};
 
-#[derive(Clone, Copy)]
-pub enum Given {
-    Entry { node: usize, value: u32 },
-    Nothing,
-}
-
+#[tactic(auto, unfolding(crate::specs::Order::one_behind))]
 // Whether a one stands right behind a place, inside the bits.
 fn one_behind(words: &[u64], len: usize, place: usize) -> bool
     ensures { result ≡ one_behind (bit words.now) len place }
 {
-    if len <= place {
-        return false;
-    }
-    if len <= place + 1 {
-        return false;
-    }
-    bit_at(words, place + 1) == 1
+    place < len && place + 1 < len && bit_at(words, place + 1) == 1
 }
 
+#[tactic(auto, unfolding(crate::specs::Moves::leads))]
 // Whether a node whose one is at a place may have a child that counts: fewer zeros than its number stand before its
 // one.
 fn leads_down(len: usize, node: usize, one: usize) -> bool
     ensures { result ≡ leads len node one }
 {
-    if len <= one {
-        return false;
-    }
-    if node == 0 {
-        return false;
-    }
-    if one + 1 < node {
-        return false;
-    }
-    // zeros before the one
-    one + 1 - node < node
+    // one + 1 - node zeros stand before the one
+    one < len && node != 0 && node <= one + 1 && one + 1 - node < node
 }
 
+#[tactic(auto, unfolding(crate::specs::Moves::first_from, crate::specs::Moves::leads, crate::specs::Order::one_behind))]
 // The first child of a node. Its one stands right behind the node's zero, which lies ahead of the node's one.
 fn first_child(words: &[u64], len: usize, last: usize, at: Perch) -> Option<Perch>
     ensures { result ≡ first_from (bit words.now) len last at }
@@ -59,9 +41,7 @@ fn first_child(words: &[u64], len: usize, last: usize, at: Perch) -> Option<Perc
         return None;
     }
     let before = at.one + 1 - at.node;
-    let Some(zero) = zero_from(words, len, at.one, at.node - before) else {
-        return None;
-    };
+    let zero = zero_from(words, len, at.one, at.node - before)?;
     if !one_behind(words, len, zero) {
         return None;
     }
@@ -75,20 +55,19 @@ fn first_child(words: &[u64], len: usize, last: usize, at: Perch) -> Option<Perc
     })
 }
 
+#[tactic(auto, unfolding(crate::specs::Moves::beside_from, crate::specs::Order::one_behind))]
 // The next sibling of a node. Its one stands right behind the node's own.
 fn beside(words: &[u64], len: usize, last: usize, at: Perch) -> Option<Perch>
     ensures { result ≡ beside_from (bit words.now) len last at }
 {
-    if last <= at.node {
-        return None;
+    if at.node < last && one_behind(words, len, at.one) {
+        Some(Perch {
+            node: at.node + 1,
+            one: at.one + 1,
+        })
+    } else {
+        None
     }
-    if !one_behind(words, len, at.one) {
-        return None;
-    }
-    Some(Perch {
-        node: at.node + 1,
-        one: at.one + 1,
-    })
 }
 
 // The next node behind a node that has no child: the next sibling of the nearest of the node and its ancestors that has
@@ -98,14 +77,10 @@ fn climb(words: &[u64], len: usize, last: usize, top: usize, from: Perch) -> Opt
 {
     let mut at = from;
     while at.node != top {
-        match beside(words, len, last, at) {
-            Some(next) => return Some(next),
-            None => {}
+        if let Some(next) = beside(words, len, last, at) {
+            return Some(next);
         }
-        let Some(up) = parent_of(words, len, at) else {
-            return None;
-        };
-        at = up;
+        at = parent_of(words, len, at)?;
     }
     None
 }
@@ -114,10 +89,7 @@ fn climb(words: &[u64], len: usize, last: usize, top: usize, from: Perch) -> Opt
 fn advance(words: &[u64], len: usize, last: usize, top: usize, at: Perch) -> Option<Perch>
     ensures { result ≡ advance_from (bit words.now) len last top at }
 {
-    match first_child(words, len, last, at) {
-        Some(child) => Some(child),
-        None => climb(words, len, last, top, at),
-    }
+    first_child(words, len, last, at).or_else(|| climb(words, len, last, top, at))
 }
 
 // The next node below a top that has a value: on an image that some map has, the least key above the node's path, of
@@ -130,27 +102,20 @@ pub fn next_valued(
     len: usize,
     top: usize,
     node: usize,
-) -> Given
+) -> Option<KeyNode>
     ensures { result
         ≡ given_of (next_by labels.now values.now (bit words.now) len top node) }
 {
     let last = labels.len() + 1;
     let mut at = perch_at(words, len, node);
-    let mut left = last;
-    while 0 < left {
-        let Some(next) = advance(words, len, last, top, at) else {
-            return Given::Nothing;
-        };
-        match value_at(labels, values, next.node) {
-            Some(value) => {
-                return Given::Entry {
-                    node: next.node,
-                    value,
-                };
-            }
-            None => at = next,
+    for _ in 0..last {
+        at = advance(words, len, last, top, at)?;
+        if let Some(value) = value_at(labels, values, at.node) {
+            return Some(KeyNode {
+                node: at.node,
+                value,
+            });
         }
-        left -= 1;
     }
-    Given::Nothing
+    None
 }

@@ -30,23 +30,16 @@ pub fn perch_at(words: &[u64], len: usize, node: usize) -> Perch
     }
 }
 
+#[tactic(auto, unfolding(crate::specs::Perches::has_parent))]
 // Whether the parent of a node whose one is at a place has a number from 1 to the node's less 1.
 fn has_parent(len: usize, node: usize, one: usize) -> bool
     ensures { result ≡ has_parent len node one }
 {
-    if len <= one {
-        return false;
-    }
-    if node == 0 {
-        return false;
-    }
-    if one < node {
-        return false;
-    }
-    // zeros before the one
-    one - (node - 1) < node
+    // one - (node - 1) zeros stand before the one
+    one < len && node != 0 && node <= one && one - (node - 1) < node
 }
 
+#[tactic(auto, unfolding(crate::specs::Perches::parent_from, crate::specs::Perches::has_parent))]
 // The parent of a perch: its number is the count of zeros before the node's one.
 pub fn parent_of(words: &[u64], len: usize, at: Perch) -> Option<Perch>
     ensures { result ≡ parent_from (bit words.now) len at }
@@ -67,11 +60,9 @@ pub fn depth(words: &[u64], len: usize, node: usize) -> usize
 {
     let mut at = perch_at(words, len, node);
     let mut count: usize = 0;
-    loop {
-        let Some(up) = parent_of(words, len, at) else {
-            return count;
-        };
+    while let Some(up) = parent_of(words, len, at) {
         at = up;
         count += 1;
     }
+    count
 }

@@ -15,16 +15,15 @@ fn label_in(entry: u16) -> u8
     (entry % MARK) as u8
 }
 
+#[tactic(auto, unfolding(crate::specs::Spelling::has_entry))]
 // Node m of 2 or more has entry m-2.
 fn has_entry(labels: &[u16], node: usize) -> bool
     ensures { result ≡ has_entry (length labels.now) node }
 {
-    if node < 2 {
-        return false;
-    }
-    node <= labels.len() + 1
+    2 <= node && node <= labels.len() + 1
 }
 
+#[tactic(auto, unfolding(crate::specs::Spelling::has_entry))]
 // Writes the last `count` labels on the way down to a node to the front of a buffer; the bytes past them stay, and a
 // buffer that is shorter stays whole.
 // The climb ends early at a node that has no entry or no parent.
@@ -36,13 +35,11 @@ pub fn spell(labels: &[u16], words: &[u64], len: usize, node: usize, count: usiz
         return;
     }
     let mut at = perch_at(words, len, node);
-    let mut left = count;
-    while 0 < left {
+    for place in (0..count).rev() {
         if !has_entry(labels, at.node) {
             return;
         }
-        left -= 1;
-        out[left] = label_in(labels[at.node - 2]);
+        out[place] = label_in(labels[at.node - 2]);
         let Some(up) = parent_of(words, len, at) else {
             return;
         };

@@ -8,7 +8,7 @@
 --     stand_near     a node with a zero that is counted from the start of a word on
 --     went_on        where a walk ends that whole words took so far, and `ended_at`: the stand that its end stands for
 -- Assumes nothing.
-use Rattle.std.specs.Prelude.{◌≡◌, ℕ, ◌+◌, ◌-◌, ◌*◌, ◌%◌, ◌^◌, ◌≤◌, ◌<◌, List, get_or, drop, None, Option, Some, unwrap_or}
+use Rattle.std.specs.Prelude.{◌≡◌, ℕ, ◌+◌, ◌-◌, ◌*◌, ◌%◌, ◌^◌, ◌≤◌, ◌<◌, List, get_or, drop, IfSome, None, Option, Some, unwrap_or}
 use Rattle.std.specs.Int.Count.{ones}
 use Rattle.keymap.specs.Key.{Key}
 use Rattle.keymap.specs.Limits.{word_bits}
@@ -18,11 +18,10 @@ use Rattle.louds.specs.Rank.{zeros_before}
 use Rattle.louds.specs.Select.{zero_from}
 use Rattle.descents.specs.declared.far.Passed.{Passed}
 use Rattle.descents.specs.declared.far.Kept.{Kept}
-use Rattle.descents.specs.declared.far.Went.{Went}
-use Rattle.descents.specs.declared.far.Went.TheVariants.{Gone, Lost}
+use Rattle.descents.specs.declared.far.Gone.{Gone}
 use Rattle.walks.specs.declared.stands.Stand.{Stand}
 use Rattle.descents.specs.declared.queries.Ended.{Ended}
-use Rattle.descents.specs.declared.queries.Ended.TheVariants.{Near, At, Nowhere}
+use Rattle.descents.specs.declared.queries.Ended.TheVariants.{Near, At}
 use Rattle.walks.specs.Stands.{down_along}
 
 abbrev pub zeros_up_to : List ℕ → ℕ → ℕ
@@ -41,22 +40,24 @@ pub record OwnSums (ws : List ℕ) (w count sums : ℕ) : Type 0 where
   pub by_byte : sums ≡ sum_below (λ i. ones (zero_bits ws w % 2 ^ (8 * (i + 1))) * 2 ^ (8 * i)) 8
 
 pub record Found (ws : List ℕ) (whole first k : ℕ) (r : Kept) : Type 0 where
+  pub kept : 0 < r.words
   pub inside : r.words ≤ whole
   pub sum : zeros_up_to ws first + k ≡ zeros_up_to ws (r.words - 1) + r.left
   pub some : 0 < r.left
   pub enough : r.left ≤ r.zeros
   pub own : OwnSums ws (r.words - 1) r.zeros r.sums
 
-abbrev pub Ready : List ℕ → ℕ → ℕ → ℕ → Kept → Type 0
-Ready ws whole first k r = 0 < k → 0 < r.words → Found ws whole first k r
+abbrev pub Ready : List ℕ → ℕ → ℕ → ℕ → Option Kept → Type 0
+Ready ws whole first k r = 0 < k → IfSome r (Found ws whole first k)
 
-pub record HasZero (ws : List ℕ) (first w : ℕ) : Type 0 where
+pub record HasZero (ws : List ℕ) (whole first w : ℕ) : Type 0 where
+  pub inside : w < whole
   pub behind : first ≤ w
   pub same : zeros_up_to ws w ≡ zeros_up_to ws first
   pub some : zero_bits ws w ≡ 0 → ⊥
 
-abbrev pub ZeroWord : List ℕ → ℕ → ℕ → ℕ → Type 0
-ZeroWord ws whole first w = w < whole → HasZero ws first w
+abbrev pub ZeroWord : List ℕ → ℕ → ℕ → Option ℕ → Type 0
+ZeroWord ws whole first r = IfSome r (HasZero ws whole first)
 
 -- a node, and the place of the zero that is the `left`-th from the start of word kept-1 on, or of word 0 where `kept`
 -- is 0
@@ -64,12 +65,12 @@ abbrev pub stand_near : (ℕ → ℕ) → ℕ → ℕ → ℕ → ℕ → Stand
 stand_near b len node kept left =
     record { node = node; zero = unwrap_or (zero_from b len ((kept - 1) * word_bits) left) len }
 
-abbrev pub went_on : List ℕ → (ℕ → ℕ) → ℕ → Key → Went → Option Stand
-went_on ls b len q Lost = None
-went_on ls b len q (Gone node steps kept left) =
-    down_along ls b len (drop steps q) (Some (stand_near b len node kept left))
+abbrev pub went_on : List ℕ → (ℕ → ℕ) → ℕ → Key → Option Gone → Option Stand
+went_on ls b len q None = None
+went_on ls b len q (Some g) =
+    down_along ls b len (drop g.steps q) (Some (stand_near b len g.node g.kept g.left))
 
-abbrev pub ended_at : (ℕ → ℕ) → ℕ → Ended → Option Stand
-ended_at b len (Near node kept left) = Some (stand_near b len node kept left)
-ended_at b len (At s) = Some s
-ended_at b len Nowhere = None
+abbrev pub ended_at : (ℕ → ℕ) → ℕ → Option Ended → Option Stand
+ended_at b len None = None
+ended_at b len (Some (Near node kept left)) = Some (stand_near b len node kept left)
+ended_at b len (Some (At s)) = Some s

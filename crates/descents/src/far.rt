@@ -15,9 +15,6 @@ use walks::stands::Stand;
 // instructions were taken.
 const FAR: usize = 110;
 
-// Every bit of a word.
-const ALL_ONES: u64 = 0xffffffffffffffff;
-
 // Words that are passed, and the zeros that are left.
 #[derive(Clone, Copy)]
 pub struct Passed {
@@ -35,19 +32,14 @@ pub struct Kept {
     pub sums: u64,
 }
 
-// How far whole words took a walk.
+// How far whole words took a walk: to a node after some steps. The word kept is word kept-1, and from its start on the
+// node's zero is the `left`-th. Where `kept` is 0 no word is kept yet, and the zero is the `left`-th from bit 0 on.
 #[derive(Clone, Copy)]
-pub enum Went {
-    // At a node after some steps: the word kept is word kept-1, and from its start on the node's zero is the `left`-th.
-    // Where `kept` is 0 there is none, and the zero is the `left`-th from bit 0 on.
-    Gone {
-        node: usize,
-        steps: usize,
-        kept: usize,
-        left: usize,
-    },
-    // No child has the next label.
-    Lost,
+pub struct Gone {
+    pub node: usize,
+    pub steps: usize,
+    pub kept: usize,
+    pub left: usize,
 }
 
 // Words are passed four at a time, while fewer zeros stand in the four than are left.
@@ -56,12 +48,10 @@ fn pass_fours(words: &[u64], whole: usize, first: usize, k: usize) -> Passed
 {
     let mut w = first;
     let mut left = k;
-    if words.len() < whole {
+    if words.len() < whole || whole < first {
         return Passed { words: w, left };
     }
-    if whole < w {
-        return Passed { words: w, left };
-    }
+    // not a `for` over chunks of four words: the word that is come to is answered, and would be counted beside them
     while w + 4 <= whole {
         let ones = ones_in(words[w])
             + ones_in(words[w + 1])
@@ -69,7 +59,7 @@ fn pass_fours(words: &[u64], whole: usize, first: usize, k: usize) -> Passed
             + ones_in(words[w + 3]);
         let zeros = 256 - ones;
         if left <= zeros {
-            return Passed { words: w, left };
+            break;
         }
         left -= zeros;
         w += 4;
@@ -77,44 +67,29 @@ fn pass_fours(words: &[u64], whole: usize, first: usize, k: usize) -> Passed
     Passed { words: w, left }
 }
 
-// The word that has the k-th zero of the words from `first` on, if that is one of the first `whole`; else no words.
-fn pass(words: &[u64], whole: usize, first: usize, k: usize) -> Kept
+// The word that has the k-th zero of the words from `first` on, if that is one of the first `whole`.
+fn pass(words: &[u64], whole: usize, first: usize, k: usize) -> Option<Kept>
     ensures { Ready words.now whole first k result }
 {
-    if words.len() < whole {
-        return Kept {
-            words: 0,
-            left: 0,
-            zeros: 0,
-            sums: 0,
-        };
-    }
-    let mut w = first;
     let mut left = k;
-    let mut sums: u64 = 0;
-    while ((sums >> 56) as usize) < left {
-        if whole <= w {
-            return Kept {
-                words: 0,
-                left: 0,
-                zeros: 0,
-                sums: 0,
-            };
+    for w in first..whole.min(words.len()) {
+        let sums = ones_by_byte(!words[w]);
+        let zeros = (sums >> 56) as usize;
+        if left <= zeros {
+            return Some(Kept {
+                words: w + 1,
+                left,
+                zeros,
+                sums,
+            });
         }
-        left -= (sums >> 56) as usize;
-        sums = ones_by_byte(!words[w]);
-        w += 1;
+        left -= zeros;
     }
-    Kept {
-        words: w,
-        left,
-        zeros: (sums >> 56) as usize,
-        sums,
-    }
+    None
 }
 
 // The same, with words passed by fours where many zeros are to be passed.
-fn pass_on(words: &[u64], whole: usize, first: usize, k: usize) -> Kept
+fn pass_on(words: &[u64], whole: usize, first: usize, k: usize) -> Option<Kept>
     ensures { Ready words.now whole first k result }
 {
     if k <= FAR {
@@ -124,74 +99,63 @@ fn pass_on(words: &[u64], whole: usize, first: usize, k: usize) -> Kept
     pass(words, whole, p.words, p.left)
 }
 
-// The first word from `first` on that has a zero; `whole` or more if none from there on below `whole` has.
-fn word_with_zero(words: &[u64], whole: usize, first: usize) -> usize
+// The first word from `first` on that has a zero, if one of the first `whole` has.
+fn word_with_zero(words: &[u64], whole: usize, first: usize) -> Option<usize>
     ensures { ZeroWord words.now whole first result }
 {
-    if words.len() < whole {
-        return whole;
-    }
-    let mut w = first;
-    while w < whole {
-        if words[w] != ALL_ONES {
-            return w;
+    for w in first..whole.min(words.len()) {
+        if words[w] != u64::MAX {
+            return Some(w);
         }
-        w += 1;
     }
-    w
+    None
 }
 
 // Down from node 1 along a query, as far as the zeros stand in whole words.
-pub fn go_far(labels: &[u16], words: &[u64], len: usize, query: &[u8]) -> Went
+pub fn go_far(labels: &[u16], words: &[u64], len: usize, query: &[u8]) -> Option<Gone>
     ensures { went_on labels.now (bit words.now) len query.now result
         ≡ reached_at (bit words.now) len
         (walked labels.now (bit words.now) len query.now) }
 {
     let whole = words.len().min(len / WORD_BITS);
     let mut node: usize = 1;
-    let mut w: usize = 0;
-    let mut left: usize = 1;
-    let mut zeros: usize = 0;
-    let mut sums: u64 = 0;
-    let mut i: usize = 0;
-    while i < query.len() {
-        if zeros < left {
-            let k = pass_on(words, whole, w, left - zeros);
-            if k.words == 0 {
+    let mut kept = Kept {
+        words: 0,
+        left: 1,
+        zeros: 0,
+        sums: 0,
+    };
+    let mut steps = query.len();
+    for i in 0..query.len() {
+        if kept.zeros < kept.left {
+            let Some(next) = pass_on(words, whole, kept.words, kept.left - kept.zeros) else {
+                steps = i;
                 break;
-            }
-            w = k.words;
-            left = k.left;
-            zeros = k.zeros;
-            sums = k.sums;
+            };
+            kept = next;
         }
-        let rest = ones_from(!words[w - 1], sums, left);
-        let base = w * WORD_BITS - node;
+        let rest = ones_from(!words[kept.words - 1], kept.sums, kept.left);
+        let base = kept.words * WORD_BITS - node;
         let from = base + lowest_one(rest) - 63;
         let more = rest & (rest - 1);
-        let mut to: usize = 0;
-        if more == 0 {
-            let v = word_with_zero(words, whole, w);
-            if whole <= v {
-                break;
-            }
-            to = v * WORD_BITS + lowest_one(!words[v]) - node;
+        let to = if more != 0 {
+            base + lowest_one(more) - 64
+        } else if let Some(v) = word_with_zero(words, whole, kept.words) {
+            v * WORD_BITS + lowest_one(!words[v]) - node
         } else {
-            to = base + lowest_one(more) - 64;
-        }
-        let Some(m) = child_within(labels, node, from, to, query[i]) else {
-            return Went::Lost;
+            steps = i;
+            break;
         };
-        left += m - node;
+        let m = child_within(labels, node, from, to, query[i])?;
+        kept.left += m - node;
         node = m;
-        i += 1;
     }
-    Went::Gone {
+    Some(Gone {
         node,
-        steps: i,
-        kept: w,
-        left,
-    }
+        steps,
+        kept: kept.words,
+        left: kept.left,
+    })
 }
 
 // The stand at a node whose zero is the `left`-th from the start of word kept-1 on, or of word 0 where `kept` is 0.

@@ -5,12 +5,11 @@ ghost use Rattle.walks.specs.Rule.{walked};
 ghost use Rattle.walks.specs.Stands.{down_along, reached_at};
 ghost use Rattle.descents.specs.Far.{stand_near, ended_at};
 
-use crate::far::{Went, go_far, stand_near};
+use crate::far::{Gone, go_far, stand_near};
 use walks::moves::down;
 use walks::stands::Stand;
 
-// Where a walk ended: at a node whose zero was not looked for yet, as whole words leave it (`far::Went`), at a stand,
-// or nowhere.
+// Where a walk ended: at a node whose zero was not looked for yet, as whole words leave it (`far::Gone`), or at a stand.
 #[derive(Clone, Copy)]
 enum Ended {
     Near {
@@ -19,7 +18,6 @@ enum Ended {
         left: usize,
     },
     At(Stand),
-    Nowhere,
 }
 
 // Down along a query from its step `steps` on, from the node that whole words left.
@@ -38,39 +36,29 @@ fn go_on(
         (Some (stand_near (bit words.now) len node kept left)) }
 {
     let mut s = stand_near(words, len, node, kept, left);
-    let mut j = steps;
-    while j < query.len() {
-        let Some(t) = down(labels, words, len, s, query[j]) else {
-            return None;
-        };
-        s = t;
-        j += 1;
+    for j in steps..query.len() {
+        s = down(labels, words, len, s, query[j])?;
     }
     Some(s)
 }
 
 // From node 1 along a query: whole words first. Where these reach the query's end, the node's zero is not looked for.
-fn reach_end(labels: &[u16], words: &[u64], len: usize, query: &[u8]) -> Ended
+fn reach_end(labels: &[u16], words: &[u64], len: usize, query: &[u8]) -> Option<Ended>
     ensures { ended_at (bit words.now) len result
         ≡ reached_at (bit words.now) len
         (walked labels.now (bit words.now) len query.now) }
 {
-    let Went::Gone {
+    let Gone {
         node,
         steps,
         kept,
         left,
-    } = go_far(labels, words, len, query)
-    else {
-        return Ended::Nowhere;
-    };
+    } = go_far(labels, words, len, query)?;
     if query.len() <= steps {
-        return Ended::Near { node, kept, left };
+        return Some(Ended::Near { node, kept, left });
     }
-    match go_on(labels, words, len, query, node, kept, left, steps) {
-        Some(t) => Ended::At(t),
-        None => Ended::Nowhere,
-    }
+    let s = go_on(labels, words, len, query, node, kept, left, steps)?;
+    Some(Ended::At(s))
 }
 
 // The node at the end of a query, walked from node 1.
@@ -78,14 +66,9 @@ pub fn end_of(labels: &[u16], words: &[u64], len: usize, query: &[u8]) -> Option
     ensures { result
         ≡ walked labels.now (bit words.now) len query.now }
 {
-    match reach_end(labels, words, len, query) {
-        Ended::Near {
-            node,
-            kept: _,
-            left: _,
-        } => Some(node),
+    match reach_end(labels, words, len, query)? {
+        Ended::Near { node, .. } => Some(node),
         Ended::At(s) => Some(s.node),
-        Ended::Nowhere => None,
     }
 }
 
@@ -95,7 +78,7 @@ pub fn walk(labels: &[u16], words: &[u64], len: usize, query: &[u8]) -> Option<S
         ≡ reached_at (bit words.now) len
         (walked labels.now (bit words.now) len query.now) }
 {
-    match reach_end(labels, words, len, query) {
+    match reach_end(labels, words, len, query)? {
         // with no step left `go_on` looks for the zero alone; called from here too it is not compiled into `reach_end`,
         // which is the shorter for it
         Ended::Near { node, kept, left } => go_on(
@@ -109,6 +92,5 @@ pub fn walk(labels: &[u16], words: &[u64], len: usize, query: &[u8]) -> Option<S
             query.len(),
         ),
         Ended::At(s) => Some(s),
-        Ended::Nowhere => None,
     }
 }

@@ -9,8 +9,6 @@ use Rattle.image.specs.contracts.acceptance.lengths_fit
 use Rattle.image.proofs.acceptance.lengths_fit.Reads as lengths-fit-reads
 use Rattle.image.specs.contracts.build
 use Rattle.image.proofs.build.Reads as build-reads
-use Rattle.image.specs.contracts.answers.Built.number as built-number
-use Rattle.image.proofs.answers.Built.number.Reads as built-number-reads
 use Rattle.image.specs.contracts.buffers.words_for as words-for
 use Rattle.image.proofs.buffers.words_for.Reads as words-for-reads
 
@@ -25,9 +23,6 @@ build-asks-nothing κs a = tt
 
 pub lengths-fit-asks-nothing : (κs : Lfts 3) (a : ArgsD lengths_fit.signature κs) → lengths-fit-reads.Pre κs a
 lengths-fit-asks-nothing κs a = tt
-
-pub built-number-asks-nothing : (κs : Lfts 0) (a : ArgsD built-number.signature κs) → built-number-reads.Pre κs a
-built-number-asks-nothing κs a = tt
 
 pub words-for-asks-nothing : (κs : Lfts 0) (a : ArgsD words-for.signature κs) → words-for-reads.Pre κs a
 words-for-asks-nothing κs a = tt

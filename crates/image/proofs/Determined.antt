@@ -19,9 +19,6 @@ use Rattle.image.proofs.build.Kinds as build-kinds
 use Rattle.image.proofs.build.Reads as build-reads
 use Rattle.image.proofs.Laws.Build.{said-built-one}
 use Rattle.image.proofs.Laws.AcceptAnswer.{said-checked-one}
-use Rattle.image.specs.contracts.answers.Built.number as built-number
-use Rattle.image.proofs.answers.Built.number.Kinds as built-number-kinds
-use Rattle.image.proofs.answers.Built.number.Reads as built-number-reads
 use Rattle.image.specs.contracts.buffers.words_for as words-for
 use Rattle.image.proofs.buffers.words_for.Kinds as words-for-kinds
 use Rattle.image.proofs.buffers.words_for.Reads as words-for-reads
@@ -50,10 +47,6 @@ build-determined κs a r₁ r₂ s₁ s₂ p q = (
   p.1.1.1.0 ∙ sym q.1.1.1.0,
   p.1.1.1.1 ∙ sym q.1.1.1.1,
 )
-
-module _ (κs : Lfts 0) (a : ArgsD built-number.signature κs) (r₁ r₂ : ResD built-number.signature κs) (s₁ s₂ : AtExit (ended_of 0 built-number-kinds.ps built-number-kinds.r) κs) where
-  pub built-number-determined : built-number-reads.Post κs a r₁ s₁ → built-number-reads.Post κs a r₂ s₂ → r₁ ≡ r₂
-  built-number-determined p q = p ∙ sym q
 
 module _ (κs : Lfts 0) (a : ArgsD words-for.signature κs) (r₁ r₂ : ResD words-for.signature κs) (s₁ s₂ : AtExit (ended_of 0 words-for-kinds.ps words-for-kinds.r) κs) where
   pub words-for-determined : words-for-reads.Post κs a r₁ s₁ → words-for-reads.Post κs a r₂ s₂ → r₁ ≡ r₂

@@ -2,7 +2,6 @@
 -- Each tie is over the contract's own claim, so a contract that cites another definition breaks it. Assumes nothing.
 use mathlib.Core.Path.{◌≡◌}
 use Rattle.keymap.specs.Contract.{Tells}
-use Rattle.keymap.specs.Answers.{answer_number}
 use Rattle.keymap.specs.Bits.{words_for}
 use Rattle.keymap.specs.Image.{bits_for}
 use mathlib.Core.Logic.{◌↔◌}
@@ -20,8 +19,6 @@ use Rattle.image.proofs.accept.Kinds as accept-kinds
 use Rattle.image.proofs.accept.Reads as accept-reads
 use Rattle.image.proofs.build.Kinds as build-kinds
 use Rattle.image.proofs.build.Reads as build-reads
-use Rattle.image.proofs.answers.Built.number.Kinds as built-number-kinds
-use Rattle.image.proofs.answers.Built.number.Reads as built-number-reads
 use Rattle.image.proofs.buffers.words_for.Kinds as words-for-kinds
 use Rattle.image.proofs.buffers.words_for.Reads as words-for-reads
 
@@ -41,9 +38,6 @@ pub build-says : Tells 5 build-kinds.ps build-kinds.r build-reads.Post (λ κs a
     × (s.1.1.1.0.now ≡ build_words a.0.now a.1.0.now a.1.1.0.now a.1.1.1.0.now a.1.1.1.1.0.now)
     × (s.1.1.1.1.0.now ≡ build_scratch a.0.now a.1.0.now a.1.1.0.now a.1.1.1.0.now a.1.1.1.1.0.now))
 build-says κs a r s p = (p.0, p.1.0, p.1.1.0, p.1.1.1.0, p.1.1.1.1)
-
-pub built-number-says : Tells 0 built-number-kinds.ps built-number-kinds.r built-number-reads.Post (λ κs a r s. r ≡ answer_number (said_built a.0))
-built-number-says κs a r s p = p
 
 pub words-for-says : Tells 0 words-for-kinds.ps words-for-kinds.r words-for-reads.Post (λ κs a r s. r ≡ words_for (bits_for a.0))
 words-for-says κs a r s p = p

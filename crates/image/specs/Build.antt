@@ -6,7 +6,7 @@
 --     of_lent           one of these, of the four buffers that a contract names
 --     CanQueue, ..      what the loops ask
 -- Assumes nothing.
-use Rattle.std.specs.Prelude.{ℕ, ◌+◌, ◌^◌, ◌≤◌, ◌<◌, ◌≡◌, Bool, cond, ◌&&◌, List, [], ◌∷◌, length, get_or, leb, ltb}
+use Rattle.std.specs.Prelude.{ℕ, ◌+◌, ◌^◌, ◌≤◌, ◌<◌, ◌≡◌, Bool, cond, ◌&&◌, List, [], ◌∷◌, length, get_or, leb, ltb, Result, Ok, Err}
 use Rattle.std.specs.Borrow.{MutBor}
 use denote.Triple.Both.{Both}
 use Rattle.keymap.specs.Refusals.{refuses}
@@ -17,15 +17,12 @@ use Rattle.records.specs.Words.{Pool, record_words, entry, first_child, next_sib
 use Rattle.records.specs.Sound.{Chain, Sound}
 use Rattle.records.specs.SoundTest.{sound_test}
 use Rattle.pool.specs.Answers.{accepted}
-use Rattle.image.specs.declared.answers.Built.{Built}
 use Rattle.keymap.specs.Buffers.{over}
 use Rattle.image.specs.LevelOrder.{child_records, level_records, pool_labels, pool_values, pool_words}
 
-abbrev pub said_built : Built → List ℕ
-said_built (Built.Nodes n) = 0 ∷ n ∷ []
-said_built Built.PoolTooSmall = refuses Refusal.PoolTooSmall
-said_built Built.NotAPool = refuses Refusal.NotAPool
-said_built Built.OutTooSmall = refuses Refusal.OutTooSmall
+abbrev pub said_built : Result ℕ Refusal → List ℕ
+said_built (Ok n) = 0 ∷ n ∷ []
+said_built (Err r) = refuses r
 
 -- n nodes besides the root, and the lengths of the label entries, values, words and scratch
 unfoldable pub buffers_fit : (n labels values words scratch : ℕ) → Bool

@@ -29,19 +29,13 @@ fn entries_fit(labels: &[u16], values: &[u32]) -> bool
     requires { length values.now ≡ length labels.now }
     ensures { result ≡ entries_fit labels.now values.now }
 {
-    let mut any: u16 = 0;
-    let mut bad: u32 = 0;
-    let mut e: usize = 0;
-    while e < labels.len() {
-        let entry = labels[e];
-        any = any | entry;
-        bad = bad | unmarked_value(entry, values[e]);
-        e += 1;
+    let mut any = 0;
+    let mut bad = 0;
+    for (&entry, &value) in labels.iter().zip(values) {
+        any |= entry;
+        bad |= unmarked_value(entry, value);
     }
-    if bad != 0 {
-        return false;
-    }
-    any < 2 * MARK
+    bad == 0 && any < 2 * MARK
 }
 
 // The bits from the third on fit, and the ones are as many as the nodes.
@@ -62,17 +56,12 @@ fn passes(labels: &[u16], values: &[u32], words: &[u64]) -> bool
 }
 
 // Whether there are at most 4,096 nodes besides the root, and as many values and words as these ask for.
+#[tactic(auto, using(std::proofs::lemmas::Bool::Decides::nat_tests), unfolding(crate::specs::AcceptTest::lengths_fit))]
 pub fn lengths_fit(labels: &[u16], values: &[u32], words: &[u64]) -> bool
     ensures { result ≡ lengths_fit (lent_image labels values words) }
 {
     let n = labels.len();
-    if MOST_NODES < n {
-        return false;
-    }
-    if values.len() != n {
-        return false;
-    }
-    words.len() == words_for(n as u32)
+    n <= MOST_NODES && values.len() == n && words.len() == words_for(n as u32)
 }
 
 // Whether the slices are the image of some map.

@@ -18,11 +18,7 @@ fn clear(words: &mut [u64], count: usize)
     requires { count ≤ length words.old }
     ensures { words.new ≡ over (replicate count 0) words.old }
 {
-    let mut w = 0;
-    while w < count {
-        words[w] = 0;
-        w += 1;
-    }
+    words[..count].fill(0);
 }
 
 // The record of the k-th that is taken: the root, then those of the queue.
@@ -30,10 +26,7 @@ fn record_at(queue: &[u32], k: usize) -> u32
     requires { k ≤ length queue.now }
     ensures { result ≡ get_or (0 ∷ queue.now) k 0 }
 {
-    if k == 0 {
-        return 0;
-    }
-    queue[k - 1]
+    if k == 0 { 0 } else { queue[k - 1] }
 }
 
 // Puts the children of record c into the queue, from entry `tail` on, and a one for each into the bits, from place `at`
@@ -68,20 +61,16 @@ pub fn write_levels(pool: &[u32], n: u32, words: &mut [u64], queue: &mut [u32])
     ensures bits { words.new ≡ over (pool_words pool.now) words.old }
     ensures order { queue.new ≡ over (level_records pool.now) queue.old }
 {
-    let nodes = n as usize;
-    let count = words_for(n);
-    clear(words, count);
+    clear(words, words_for(n));
     // the sequence begins with 1, 0
     put_one(words, 0);
-    let mut at: usize = 2;
-    let mut tail: usize = 0;
-    let mut k: usize = 0;
-    while k <= nodes {
+    let mut at = 2;
+    let mut tail = 0;
+    for k in 0..n as usize + 1 {
         let c = record_at(queue, k);
         let d = queue_children(pool, c, words, at, queue, tail);
         tail += d;
         // a one for each child, and a zero
         at += d + 1;
-        k += 1;
     }
 }

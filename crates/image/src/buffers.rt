@@ -14,18 +14,10 @@ pub fn words_for(n: u32) -> usize
 }
 
 // No buffer of these lengths is shorter than n nodes besides the root need.
+#[tactic(auto, using(std::proofs::lemmas::Bool::Decides::nat_tests), unfolding(crate::specs::Build::buffers_fit))]
 pub fn buffers_fit(n: u32, labels: usize, values: usize, words: usize, scratch: usize) -> bool
     ensures { result ≡ buffers_fit n labels values words scratch }
 {
     let nodes = n as usize;
-    if labels < nodes {
-        return false;
-    }
-    if values < nodes {
-        return false;
-    }
-    if words < words_for(n) {
-        return false;
-    }
-    nodes <= scratch
+    nodes <= labels && nodes <= values && words_for(n) <= words && nodes <= scratch
 }

@@ -17,12 +17,9 @@ pub fn write_entries(pool: &[u32], order: &[u32], n: u32, labels: &mut [u16], va
     ensures values { values.new
         ≡ over (map (value pool.now) (take n order.now)) values.old }
 {
-    let nodes = n as usize;
-    let mut j: usize = 0;
-    while j < nodes {
+    for j in 0..n as usize {
         let c = order[j];
         labels[j] = entry_of(pool, c) as u16;
         values[j] = value_of(pool, c);
-        j += 1;
     }
 }

@@ -2,7 +2,6 @@
 #![tactic(auto)]
 
 mod acceptance;
-pub mod answers;
 mod breadth_first;
 mod buffers;
 mod entries;
@@ -16,7 +15,6 @@ ghost use Rattle.image.specs.AcceptAnswer.{accepted_if, said_checked, accept_say
 ghost use Rattle.image.specs.Build.{said_built, build_says, build_labels, build_values, build_words, build_scratch};
 ghost use Rattle.image.specs.Build.{of_lent};
 
-use crate::answers::Built;
 use crate::breadth_first::write_levels;
 use crate::buffers::buffers_fit;
 use crate::entries::write_entries;
@@ -24,8 +22,8 @@ pub use acceptance::{is_image, lengths_fit};
 pub use buffers::words_for;
 pub use entries::MARK;
 use keymap::Refusal;
-use records::soundness::is_sound;
-use records::words::{RECORD_WORDS, used_count};
+use records::soundness::check_sound;
+use records::words::used_count;
 
 // Refuses slices that are no map's image. It only reads.
 pub fn accept(labels: &[u16], values: &[u32], words: &[u64]) -> Result<(), Refusal>
@@ -40,31 +38,26 @@ pub fn accept(labels: &[u16], values: &[u32], words: &[u64]) -> Result<(), Refus
 }
 
 // Writes the image of the pool's map, and the level order of its records to the scratch slice. The pool is only read,
-// longer buffers keep their tails.
+// longer buffers keep their tails. A refusal writes nothing.
 pub fn build(
     pool: &[u32],
     labels: &mut [u16],
     values: &mut [u32],
     words: &mut [u64],
     scratch: &mut [u32],
-) -> Built
+) -> Result<u32, Refusal>
     ensures answer { said_built result ≡ of_lent (build_says pool.now) labels values words scratch }
     ensures labels { labels.new ≡ of_lent (build_labels pool.now) labels values words scratch }
     ensures values { values.new ≡ of_lent (build_values pool.now) labels values words scratch }
     ensures words { words.new ≡ of_lent (build_words pool.now) labels values words scratch }
     ensures scratch { scratch.new ≡ of_lent (build_scratch pool.now) labels values words scratch }
 {
-    if pool.len() < RECORD_WORDS {
-        return Built::PoolTooSmall;
-    }
-    if !is_sound(pool) {
-        return Built::NotAPool;
-    }
+    check_sound(pool)?;
     let n = used_count(pool);
     if !buffers_fit(n, labels.len(), values.len(), words.len(), scratch.len()) {
-        return Built::OutTooSmall;
+        return Err(Refusal::OutTooSmall);
     }
     write_levels(pool, n, words, scratch);
     write_entries(pool, scratch, n, labels, values);
-    Built::Nodes(n)
+    Ok(n)
 }

@@ -37,13 +37,11 @@ fn labels_rise(labels: &[u16], e: usize, count: usize) -> bool
     requires { e + count < length labels.now }
     ensures { result ≡ all_below (λ j. labels_rise labels.now (e + j)) count }
 {
-    let mut j: usize = 0;
-    while j < count {
+    for j in 0..count {
         let i = e + j;
         if labels[i + 1] % MARK <= labels[i] % MARK {
             return false;
         }
-        j += 1;
     }
     true
 }
@@ -130,18 +128,15 @@ pub fn words_fit(labels: &[u16], words: &[u64]) -> bool
     ensures { result ≡ all_below (word_at labels.now words.now) (length words.now) }
 {
     let len = 2 * labels.len() + 3;
-    let mut before: usize = 0;
-    let mut last: u64 = 0;
-    let mut w: usize = 0;
-    while w < words.len() {
-        let x = words[w];
+    let mut before = 0;
+    let mut last = 0;
+    for (w, &x) in words.iter().enumerate() {
         let at = w * WORD_BITS;
         if !word_fits(labels, x, last, at, before, len - at) {
             return false;
         }
         before += ones_in(x);
         last = x;
-        w += 1;
     }
     true
 }

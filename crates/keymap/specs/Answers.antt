@@ -1,7 +1,7 @@
 -- What several calls say in numbers: a refusal is its number alone, every other answer begins with 0 and goes on with
 -- what it tells.
 --
---     said           an answer that may be a refusal, and `told_value`: what a value found tells
+--     said           an answer that may be a refusal, and `told_value`, `told_flag`: what a value found tells, and yes or no
 --     given          whether something was found
 --     says_value     a value found, or no match
 --     says_flag      yes, or no
@@ -24,17 +24,19 @@ abbrev pub told_value : Option ℕ → List ℕ
 told_value None = []
 told_value (Some v) = v ∷ []
 
+abbrev pub told_flag : Bool → List ℕ
+told_flag true = 1 ∷ []
+told_flag false = []
+
 abbrev pub given : Option ℕ → Bool
 given None = false
 given (Some v) = true
 
 abbrev pub says_value : Option ℕ → List ℕ
-says_value None = 0 ∷ []
-says_value (Some v) = 0 ∷ v ∷ []
+says_value o = 0 ∷ told_value o
 
 abbrev pub says_flag : Bool → List ℕ
-says_flag true = 0 ∷ 1 ∷ []
-says_flag false = 0 ∷ []
+says_flag b = 0 ∷ told_flag b
 
 -- its length, or refusal 8 where the buffer is shorter
 abbrev pub says_written : Key → List ℕ → List ℕ

@@ -14,7 +14,7 @@ use Rattle.louds.specs.Taking.{cleared, ones_from}
 use Rattle.louds.specs.Nodes.{Run, run_from, children_of, up_from, parent_of}
 
 abbrev Row : Type 0
-Row = ℕ × Option Children × (Option ℕ)
+Row = ℕ × Option Children × Option ℕ
 
 -- what the bits of some words say of the numbers that a table has
 abbrev answers : List ℕ → ℕ → List Row → List Row
@@ -69,7 +69,7 @@ fruit-nodes = refl
 
 -- a length, a number, and where the zero or one of that number stands below that length
 abbrev Select : Type 0
-Select = ℕ × ℕ × (Option ℕ)
+Select = ℕ × ℕ × Option ℕ
 
 abbrev zeros_found : List ℕ → List Select → List Select
 zeros_found ws = map (λ (row : Select). (row.0, row.1, zero_at (bit ws) row.0 row.1))
@@ -150,7 +150,7 @@ unfolding bit gap sum_below kth
 last-word-of-ones = (refl, refl)
 
 -- and from a place on: a length, the place, a number, and where the zero stands
-abbrev onward_of_two : List (ℕ × ℕ × ℕ × (Option ℕ))
+abbrev onward_of_two : List (ℕ × ℕ × ℕ × Option ℕ)
 onward_of_two =
     (63, 63, 1, None)
     ∷ (64, 62, 2, Some 63)
@@ -164,7 +164,7 @@ onward_of_two =
     ∷ (129, 129, 1, None)
     ∷ []
 
-pub zeros-onward-at-ends : map (λ (row : ℕ × ℕ × ℕ × (Option ℕ)). (row.0, row.1, row.2, zero_from (bit (0 ∷ all_ones ∷ [])) row.0 row.1 row.2)) onward_of_two ≡ onward_of_two
+pub zeros-onward-at-ends : map (λ (row : ℕ × ℕ × ℕ × Option ℕ). (row.0, row.1, row.2, zero_from (bit (0 ∷ all_ones ∷ [])) row.0 row.1 row.2)) onward_of_two ≡ onward_of_two
 unfolding bit gap sum_below onward kth
 zeros-onward-at-ends = refl
 

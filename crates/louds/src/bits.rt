@@ -9,7 +9,7 @@ pub const WORD_BITS: usize = 64;
 pub fn word_at(words: &[u64], w: usize) -> u64
     ensures { result ≡ slice_index words.now w }
 {
-    if w < words.len() { words[w] } else { 0 }
+    words.get(w).copied().unwrap_or(0)
 }
 
 // Bit i, and 0 beyond the last word.
@@ -26,6 +26,6 @@ pub fn put_one(words: &mut [u64], p: usize)
 {
     let w = p / WORD_BITS;
     if w < words.len() {
-        words[w] = words[w] | (1u64 << (p % WORD_BITS));
+        words[w] |= 1u64 << (p % WORD_BITS);
     }
 }

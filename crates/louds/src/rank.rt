@@ -41,13 +41,8 @@ pub fn ones_before(words: &[u64], i: usize) -> usize
 {
     let whole = i / WORD_BITS;
     let mut total: usize = 0;
-    let mut w: usize = 0;
-    while w < whole {
-        if words.len() <= w {
-            return total;
-        }
-        total += ones_in(words[w]);
-        w += 1;
+    for &word in &words[..whole.min(words.len())] {
+        total += ones_in(word);
     }
     let mask = (1u64 << (i % WORD_BITS)) - 1;
     total + ones_in(word_at(words, whole) & mask)

@@ -30,23 +30,24 @@ pub fn lowest_one(word: u64) -> usize
     u64::trailing_zeros(word) as usize
 }
 
-// Where the j-th one of a word is, counted from 1; 64 if it has fewer or j is 0. The ones below it are taken away.
-fn picked(word: u64, j: usize) -> usize
-    ensures { result ≡ unwrap_or (kth (digit word) word_bits j) word_bits }
+// Where the j-th one of a word is, counted from 1. The ones below it are taken away.
+fn picked(word: u64, j: usize) -> Option<usize>
+    ensures { result ≡ kth (digit word) word_bits j }
 {
     if j == 0 {
-        return WORD_BITS;
+        return None;
     }
     let mut left = j;
     let mut rest = word;
+    // it ends with the word's ones: as a `for` up to j a turn took an instruction more
     while rest != 0 {
         if left == 1 {
-            return lowest_one(rest);
+            return Some(lowest_one(rest));
         }
-        rest = rest & (rest - 1);
+        rest &= rest - 1;
         left -= 1;
     }
-    WORD_BITS
+    None
 }
 
 // Where the j-th one of a word is that has so many. Beyond a few, its byte is found by the counts of all bytes at once,
@@ -56,14 +57,14 @@ fn nth_one(word: u64, j: usize) -> usize
     ensures { kth (digit word) word_bits j ≡ Some result }
 {
     if j <= FEW {
-        return picked(word, j);
+        return picked(word, j).unwrap();
     }
     let sums = ones_by_byte(word);
     // a byte keeps its top bit if j ones or more stand up to its end, so the lowest that does has the j-th
     let reached = (sums + TOP_BITS - (j as u64) * LOW_BITS) & TOP_BITS;
     let start = lowest_one(reached) - 7;
     let below = ((sums << 8) >> start) & 255;
-    start + picked(word >> start, j - below as usize)
+    start + picked(word >> start, j - below as usize).unwrap()
 }
 
 // What 127 in each byte is more than the complement of 0.
@@ -81,14 +82,13 @@ pub fn ones_from(word: u64, sums: u64, j: usize) -> u64
         (j % 256) as u64 * LOW_BITS,
     );
     let start = (lowest_one(!fewer & TOP_BITS) + 56) & 56;
-    let mut over = (fewer >> start) % 128;
+    let over = (fewer >> start) % 128;
     let mut rest = word >> start << start;
-    while over != 0 {
+    for _ in 0..over {
         if rest == 0 {
             return 0;
         }
-        rest = rest & (rest - 1);
-        over -= 1;
+        rest &= rest - 1;
     }
     rest
 }
@@ -111,16 +111,7 @@ fn marks_in(words: &[u64], v: u64, w: usize) -> u64
 fn among_zeros(len: usize, v: u64, from: usize, k: usize) -> Option<usize>
     ensures { result ≡ bit_from (λ i. 0) len v from k }
 {
-    if v != 0 {
-        return None;
-    }
-    if k == 0 {
-        return None;
-    }
-    if len <= from {
-        return None;
-    }
-    if len - from < k {
+    if v != 0 || k == 0 || len <= from || len - from < k {
         return None;
     }
     Some(from + (k - 1))
@@ -132,10 +123,7 @@ fn near_zero(words: &[u64], len: usize, from: usize, k: usize) -> Option<usize>
 {
     let w = from / WORD_BITS;
     let before = from % WORD_BITS;
-    let near = picked(marks_in(words, 0, w) >> before << before, k);
-    if near == WORD_BITS {
-        return None;
-    }
+    let near = picked(marks_in(words, 0, w) >> before << before, k)?;
     let p = w * WORD_BITS + near;
     if p < len { Some(p) } else { None }
 }
@@ -145,10 +133,7 @@ fn near_zero(words: &[u64], len: usize, from: usize, k: usize) -> Option<usize>
 fn bit_from(words: &[u64], len: usize, v: u64, from: usize, k: usize) -> Option<usize>
     ensures { result ≡ bit_from (bit words.now) len v from k }
 {
-    if k == 0 {
-        return None;
-    }
-    if len <= from {
+    if k == 0 || len <= from {
         return None;
     }
     let mut w = from / WORD_BITS;
@@ -159,6 +144,7 @@ fn bit_from(words: &[u64], len: usize, v: u64, from: usize, k: usize) -> Option<
     let mut x = marks_in(words, v, w) >> before << before;
     let mut count = ones_in(x);
     let mut left = k;
+    // as a `for` over the words a call took two to four instructions in a hundred more where the bit is not far
     while count < left {
         if len / WORD_BITS <= w {
             return None;
@@ -174,9 +160,10 @@ fn bit_from(words: &[u64], len: usize, v: u64, from: usize, k: usize) -> Option<
     let start = w * WORD_BITS;
     let p = nth_one(x, left);
     if p < len - start {
-        return Some(start + p);
+        Some(start + p)
+    } else {
+        None
     }
-    None
 }
 
 // The k-th zero.
@@ -215,21 +202,22 @@ pub fn one_back(words: &[u64], from: usize, k: usize) -> Option<usize>
     if k == 0 {
         return None;
     }
-    let mut w = from / WORD_BITS;
-    let mut x = word_at(words, w) & ((1u64 << (from % WORD_BITS)) - 1);
-    if words.len() < w {
-        // beyond the last word there are no ones
-        w = words.len();
-    }
-    let mut seen = ones_in(x);
-    while seen < k {
-        if w == 0 {
-            return None;
-        }
-        w -= 1;
-        x = words[w];
+    // of the place's own word the bits before it count; beyond the last word there are no ones
+    let own = from / WORD_BITS;
+    let (end, mut kept) = if own < words.len() {
+        (own + 1, (1u64 << (from % WORD_BITS)) - 1)
+    } else {
+        (words.len(), u64::MAX)
+    };
+    let mut seen: usize = 0;
+    for w in (0..end).rev() {
+        let x = words[w] & kept;
         seen += ones_in(x);
+        if k <= seen {
+            // counted down it is the k-th of those seen
+            return Some(w * WORD_BITS + nth_one(x, seen - (k - 1)));
+        }
+        kept = u64::MAX;
     }
-    // counted down it is the k-th of those seen
-    Some(w * WORD_BITS + nth_one(x, seen - (k - 1)))
+    None
 }

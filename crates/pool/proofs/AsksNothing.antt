@@ -7,12 +7,6 @@ use Rattle.pool.specs.contracts.use_count
 use Rattle.pool.proofs.use_count.Reads as use-count-reads
 use Rattle.pool.specs.contracts.push
 use Rattle.pool.proofs.push.Reads as push-reads
-use Rattle.pool.specs.contracts.answers.Cleared.number as cleared-number
-use Rattle.pool.proofs.answers.Cleared.number.Reads as cleared-number-reads
-use Rattle.pool.specs.contracts.answers.Counted.number as counted-number
-use Rattle.pool.proofs.answers.Counted.number.Reads as counted-number-reads
-use Rattle.pool.specs.contracts.answers.Pushed.number as pushed-number
-use Rattle.pool.proofs.answers.Pushed.number.Reads as pushed-number-reads
 
 pub reset-asks-nothing : (κs : Lfts 1) (a : ArgsD reset.signature κs) → reset-reads.Pre κs a
 reset-asks-nothing κs a = tt
@@ -22,12 +16,3 @@ use-count-asks-nothing κs a = tt
 
 pub push-asks-nothing : (κs : Lfts 2) (a : ArgsD push.signature κs) → push-reads.Pre κs a
 push-asks-nothing κs a = tt
-
-pub cleared-number-asks-nothing : (κs : Lfts 0) (a : ArgsD cleared-number.signature κs) → cleared-number-reads.Pre κs a
-cleared-number-asks-nothing κs a = tt
-
-pub counted-number-asks-nothing : (κs : Lfts 0) (a : ArgsD counted-number.signature κs) → counted-number-reads.Pre κs a
-counted-number-asks-nothing κs a = tt
-
-pub pushed-number-asks-nothing : (κs : Lfts 0) (a : ArgsD pushed-number.signature κs) → pushed-number-reads.Pre κs a
-pushed-number-asks-nothing κs a = tt

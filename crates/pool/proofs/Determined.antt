@@ -15,15 +15,6 @@ use Rattle.pool.proofs.use_count.Reads as use-count-reads
 use Rattle.pool.specs.contracts.push
 use Rattle.pool.proofs.push.Kinds as push-kinds
 use Rattle.pool.proofs.push.Reads as push-reads
-use Rattle.pool.specs.contracts.answers.Cleared.number as cleared-number
-use Rattle.pool.proofs.answers.Cleared.number.Kinds as cleared-number-kinds
-use Rattle.pool.proofs.answers.Cleared.number.Reads as cleared-number-reads
-use Rattle.pool.specs.contracts.answers.Counted.number as counted-number
-use Rattle.pool.proofs.answers.Counted.number.Kinds as counted-number-kinds
-use Rattle.pool.proofs.answers.Counted.number.Reads as counted-number-reads
-use Rattle.pool.specs.contracts.answers.Pushed.number as pushed-number
-use Rattle.pool.proofs.answers.Pushed.number.Kinds as pushed-number-kinds
-use Rattle.pool.proofs.answers.Pushed.number.Reads as pushed-number-reads
 
 module _ (κs : Lfts 1) (a : ArgsD reset.signature κs) (r₁ r₂ : ResD reset.signature κs) (s₁ s₂ : AtExit (ended_of 1 reset-kinds.ps reset-kinds.r) κs) where
   pub reset-determined : reset-reads.Post κs a r₁ s₁ → reset-reads.Post κs a r₂ s₂ → (r₁ ≡ r₂) × (s₁.0.now ≡ s₂.0.now)
@@ -36,15 +27,3 @@ module _ (κs : Lfts 1) (a : ArgsD use_count.signature κs) (r₁ r₂ : ResD us
 module _ (κs : Lfts 2) (a : ArgsD push.signature κs) (r₁ r₂ : ResD push.signature κs) (s₁ s₂ : AtExit (ended_of 2 push-kinds.ps push-kinds.r) κs) where
   pub push-determined : push-reads.Post κs a r₁ s₁ → push-reads.Post κs a r₂ s₂ → (r₁ ≡ r₂) × (s₁.0.now ≡ s₂.0.now)
   push-determined p q = (said-pushed-one r₁ r₂ (p.0 ∙ sym q.0), p.1 ∙ sym q.1)
-
-module _ (κs : Lfts 0) (a : ArgsD cleared-number.signature κs) (r₁ r₂ : ResD cleared-number.signature κs) (s₁ s₂ : AtExit (ended_of 0 cleared-number-kinds.ps cleared-number-kinds.r) κs) where
-  pub cleared-number-determined : cleared-number-reads.Post κs a r₁ s₁ → cleared-number-reads.Post κs a r₂ s₂ → r₁ ≡ r₂
-  cleared-number-determined p q = p ∙ sym q
-
-module _ (κs : Lfts 0) (a : ArgsD counted-number.signature κs) (r₁ r₂ : ResD counted-number.signature κs) (s₁ s₂ : AtExit (ended_of 0 counted-number-kinds.ps counted-number-kinds.r) κs) where
-  pub counted-number-determined : counted-number-reads.Post κs a r₁ s₁ → counted-number-reads.Post κs a r₂ s₂ → r₁ ≡ r₂
-  counted-number-determined p q = p ∙ sym q
-
-module _ (κs : Lfts 0) (a : ArgsD pushed-number.signature κs) (r₁ r₂ : ResD pushed-number.signature κs) (s₁ s₂ : AtExit (ended_of 0 pushed-number-kinds.ps pushed-number-kinds.r) κs) where
-  pub pushed-number-determined : pushed-number-reads.Post κs a r₁ s₁ → pushed-number-reads.Post κs a r₂ s₂ → r₁ ≡ r₂
-  pushed-number-determined p q = p ∙ sym q

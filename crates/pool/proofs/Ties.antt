@@ -2,7 +2,6 @@
 -- Each tie is over the contract's own claim, so a contract that cites another definition breaks it. Assumes nothing.
 use mathlib.Core.Path.{◌≡◌}
 use Rattle.keymap.specs.Contract.{Tells}
-use Rattle.keymap.specs.Answers.{answer_number}
 use Rattle.pool.specs.Answers.{said_cleared, said_counted, said_pushed}
 use Rattle.pool.specs.Reset.{reset_says, reset_pool}
 use Rattle.pool.specs.UseCount.{use_count_says}
@@ -13,12 +12,6 @@ use Rattle.pool.proofs.use_count.Kinds as use-count-kinds
 use Rattle.pool.proofs.use_count.Reads as use-count-reads
 use Rattle.pool.proofs.push.Kinds as push-kinds
 use Rattle.pool.proofs.push.Reads as push-reads
-use Rattle.pool.proofs.answers.Cleared.number.Kinds as cleared-number-kinds
-use Rattle.pool.proofs.answers.Cleared.number.Reads as cleared-number-reads
-use Rattle.pool.proofs.answers.Counted.number.Kinds as counted-number-kinds
-use Rattle.pool.proofs.answers.Counted.number.Reads as counted-number-reads
-use Rattle.pool.proofs.answers.Pushed.number.Kinds as pushed-number-kinds
-use Rattle.pool.proofs.answers.Pushed.number.Reads as pushed-number-reads
 
 pub reset-says : Tells 1 reset-kinds.ps reset-kinds.r reset-reads.Post (λ κs a r s. (said_cleared r ≡ reset_says a.0.now) × (s.0.now ≡ reset_pool a.0.now))
 reset-says κs a r s p = p
@@ -28,12 +21,3 @@ use-count-says κs a r s p = p
 
 pub push-says : Tells 2 push-kinds.ps push-kinds.r push-reads.Post (λ κs a r s. (said_pushed r ≡ push_says a.0.now a.1.0.now) × (s.0.now ≡ push_pool a.0.now a.1.0.now a.1.1.0))
 push-says κs a r s p = p
-
-pub cleared-number-says : Tells 0 cleared-number-kinds.ps cleared-number-kinds.r cleared-number-reads.Post (λ κs a r s. r ≡ answer_number (said_cleared a.0))
-cleared-number-says κs a r s p = p
-
-pub counted-number-says : Tells 0 counted-number-kinds.ps counted-number-kinds.r counted-number-reads.Post (λ κs a r s. r ≡ answer_number (said_counted a.0))
-counted-number-says κs a r s p = p
-
-pub pushed-number-says : Tells 0 pushed-number-kinds.ps pushed-number-kinds.r pushed-number-reads.Post (λ κs a r s. r ≡ answer_number (said_pushed a.0))
-pushed-number-says κs a r s p = p

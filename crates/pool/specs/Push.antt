@@ -6,14 +6,13 @@
 --     push_pool        what it leaves: a refusal leaves the pool as it was
 --     TestedPush       what a push into a sound pool promises
 -- Assumes nothing.
-use Rattle.std.specs.Prelude.{ℕ, ◌+◌, ◌≡◌, Bool, cond, List, [], ◌∷◌, length, drop, leb, ltb, eqb}
+use Rattle.std.specs.Prelude.{ℕ, ◌+◌, ◌≡◌, Bool, cond, List, [], ◌∷◌, length, drop, leb, ltb, eqb, Result}
 use Rattle.keymap.specs.Key.{Key}
 use Rattle.keymap.specs.Refusals.{refuses}
 use Rattle.keymap.specs.declared.refusals.Refusal.{Refusal}
 use Rattle.records.specs.Words.{Pool, record_words, used_count, capacity}
 use Rattle.records.specs.Sound.{Sound}
 use Rattle.records.specs.SoundTest.{sound_test}
-use Rattle.pool.specs.declared.answers.Pushed.{Pushed}
 use Rattle.pool.specs.declared.path.Reach.{Reach}
 use Rattle.pool.specs.Answers.{said_pushed, accepted}
 use Rattle.pool.specs.Path.{reach_of, missing_labels}
@@ -45,7 +44,7 @@ unfoldable pub push_pool : Pool → Key → ℕ → Pool
 push_pool p key v = cond (accepted (push_says p key)) (inserted p key v) p
 
 -- p is the pool before, q the pool after
-pub record TestedPush (p : Pool) (key : Key) (v : ℕ) (r : Pushed) (q : Pool) : Type 0 where
+pub record TestedPush (p : Pool) (key : Key) (v : ℕ) (r : Result (Unit {0}) Refusal) (q : Pool) : Type 0 where
   pub answer : said_pushed r ≡ tested_says p key
   pub left : q ≡ cond (accepted (tested_says p key)) (inserted p key v) p
   pub sound : Sound q

@@ -5,7 +5,6 @@
 // After `src/map/trie_builder.rs` and `src/internal_data_structure/naive_trie/naive_trie_impl.rs`.
 #![tactic(auto)]
 
-pub mod answers;
 mod path;
 mod pushing;
 mod siblings;
@@ -17,47 +16,36 @@ ghost use Rattle.pool.specs.Reset.{reset_says, reset_pool};
 ghost use Rattle.pool.specs.UseCount.{use_count_says};
 ghost use Rattle.pool.specs.Push.{push_says, push_pool};
 
-use crate::answers::{Cleared, Counted, Pushed};
 use crate::pushing::push_tested;
 use crate::words::fill;
-use records::soundness::is_sound;
+use keymap::Refusal;
+use records::soundness::check_sound;
 use records::words::{RECORD_WORDS, used_count};
 
 // Zeroes record 0 of any pool of 5 words or more.
-pub fn reset(pool: &mut [u32]) -> Cleared
+pub fn reset(pool: &mut [u32]) -> Result<(), Refusal>
     ensures answer { said_cleared result ≡ reset_says pool.old }
     ensures left { pool.new ≡ reset_pool pool.old }
 {
     if pool.len() < RECORD_WORDS {
-        return Cleared::PoolTooSmall;
+        return Err(Refusal::PoolTooSmall);
     }
     fill(pool, 0, 0, 0, 0);
-    Cleared::Done
+    Ok(())
 }
 
 // The number of records in use, the root left out.
-pub fn use_count(pool: &[u32]) -> Counted
+pub fn use_count(pool: &[u32]) -> Result<u32, Refusal>
     ensures answer { said_counted result ≡ use_count_says pool.now }
 {
-    if pool.len() < RECORD_WORDS {
-        return Counted::PoolTooSmall;
-    }
-    if !is_sound(pool) {
-        return Counted::NotAPool;
-    }
-    Counted::Records(used_count(pool))
+    check_sound(pool).map(|()| used_count(pool))
 }
 
-// Gives the key the value; the records that its path lacks are taken.
-pub fn push(pool: &mut [u32], key: &[u8], value: u32) -> Pushed
+// Gives the key the value; the records that its path lacks are taken. A refusal leaves the pool as it was.
+pub fn push(pool: &mut [u32], key: &[u8], value: u32) -> Result<(), Refusal>
     ensures answer { said_pushed result ≡ push_says pool.old key.now }
     ensures left { pool.new ≡ push_pool pool.old key.now value }
 {
-    if pool.len() < RECORD_WORDS {
-        return Pushed::PoolTooSmall;
-    }
-    if !is_sound(pool) {
-        return Pushed::NotAPool;
-    }
+    check_sound(pool)?;
     push_tested(pool, key, value)
 }

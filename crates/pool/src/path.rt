@@ -20,16 +20,17 @@ pub fn reach_of(pool: &[u32], key: &[u8]) -> Reach
     ensures { result ≡ reach_of pool.now key.now }
 {
     let mut at = 0;
-    let mut depth = 0;
-    while depth < key.len() {
-        let c = child_at(pool, at, key[depth] as u32);
-        if c == 0 {
+    for (depth, &label) in key.iter().enumerate() {
+        let child = child_at(pool, at, u32::from(label));
+        if child == 0 {
             return Reach { at, depth };
         }
-        at = c;
-        depth += 1;
+        at = child;
     }
-    Reach { at, depth }
+    Reach {
+        at,
+        depth: key.len(),
+    }
 }
 
 // One record more, with label b, among the children of i; its number.
@@ -38,26 +39,21 @@ fn enter(pool: &mut [u32], i: u32, b: u32) -> u32
     ensures { (result ≡ next_record pool.old) × (pool.new ≡ entered pool.old i b) }
 {
     let m = last_record(pool) + 1;
-    let s = slot_of(pool, i, b);
-    let prev = s.prev;
-    let next = s.next;
-    fill(pool, m, b, next, i);
-    link(pool, i, prev, m);
+    let slot = slot_of(pool, i, b);
+    fill(pool, m, b, slot.next, i);
+    link(pool, i, slot.prev, m);
     take(pool, m);
     m
 }
 
-// A record for each byte of the key from depth on, each below the one before; the last of them.
-pub fn enter_all(pool: &mut [u32], key: &[u8], at: u32, depth: usize) -> u32
-    requires { CanEnterAll pool.old at (drop depth key.now) × (depth ≤ length key.now) }
-    ensures { (result ≡ last_entered pool.old at (drop depth key.now))
-        × (pool.new ≡ entered_all pool.old at (drop depth key.now)) }
+// A record below `at` for each of the bytes, each below the one before; the last of them.
+pub fn enter_all(pool: &mut [u32], at: u32, bytes: &[u8]) -> u32
+    requires { CanEnterAll pool.old at bytes.now }
+    ensures { (result ≡ last_entered pool.old at bytes.now) × (pool.new ≡ entered_all pool.old at bytes.now) }
 {
-    let mut i = at;
-    let mut d = depth;
-    while d < key.len() {
-        i = enter(pool, i, key[d] as u32);
-        d += 1;
+    let mut last = at;
+    for &label in bytes {
+        last = enter(pool, last, u32::from(label));
     }
-    i
+    last
 }

@@ -2,28 +2,26 @@
 ghost use Rattle.records.specs.Sound.{Sound};
 ghost use Rattle.pool.specs.Push.{TestedPush};
 
-use crate::answers::Pushed;
 use crate::path::{enter_all, reach_of};
 use crate::words::mark;
+use keymap::Refusal;
 use records::words::{capacity_of, used_count};
 
 // Push into a sound pool, which stays sound: first the refusals that are left, then the missing records, then the mark.
-pub fn push_tested(pool: &mut [u32], key: &[u8], value: u32) -> Pushed
+pub fn push_tested(pool: &mut [u32], key: &[u8], value: u32) -> Result<(), Refusal>
     requires { Sound pool.old }
     ensures { TestedPush pool.old key.now value result pool.new }
 {
-    if key.len() == 0 {
-        return Pushed::EmptyKey;
+    if key.is_empty() {
+        return Err(Refusal::EmptyKey);
     }
     let reach = reach_of(pool, key);
-    let at = reach.at;
-    let depth = reach.depth;
-    let needed = used_count(pool) as usize + (key.len() - depth);
+    let needed = used_count(pool) as usize + (key.len() - reach.depth);
     let most = capacity_of(pool) as usize;
     if most < needed {
-        return Pushed::NoRoom;
+        return Err(Refusal::NoRoom);
     }
-    let end = enter_all(pool, key, at, depth);
+    let end = enter_all(pool, reach.at, &key[reach.depth..]);
     mark(pool, end, value);
-    Pushed::Done
+    Ok(())
 }

@@ -16,31 +16,26 @@ pub struct Slot {
 pub fn slot_of(pool: &[u32], i: u32, b: u32) -> Slot
     ensures { result ≡ slot_of pool.now i b }
 {
-    let mut left = last_record(pool);
-    let mut prev = 0;
-    let mut next = first_child(pool, i);
-    while 0 < left {
-        if next == 0 {
-            return Slot { prev, next };
+    let mut slot = Slot {
+        prev: 0,
+        next: first_child(pool, i),
+    };
+    for _ in 0..last_record(pool) {
+        if slot.next == 0 || b <= label_of(pool, slot.next) {
+            break;
         }
-        if b <= label_of(pool, next) {
-            return Slot { prev, next };
-        }
-        prev = next;
-        next = next_sibling(pool, next);
-        left -= 1;
+        slot = Slot {
+            prev: slot.next,
+            next: next_sibling(pool, slot.next),
+        };
     }
-    Slot { prev, next }
+    slot
 }
 
 // The child of i with label b, 0 if there is none.
 pub fn child_at(pool: &[u32], i: u32, b: u32) -> u32
     ensures { result ≡ child_at pool.now i b }
 {
-    let s = slot_of(pool, i, b);
-    let next = s.next;
-    if label_of(pool, next) == b {
-        return next;
-    }
-    0
+    let next = slot_of(pool, i, b).next;
+    if label_of(pool, next) == b { next } else { 0 }
 }

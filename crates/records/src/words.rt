@@ -13,14 +13,12 @@ pub const BYTE_LIMIT: u32 = 256;
 pub const MARK: u32 = 256;
 
 // Word k of record c.
+#[tactic(auto, unfolding(crate::specs::Words::word))]
 fn word_at(pool: &[u32], c: u32, k: u32) -> u32
     ensures { result ≡ word pool.now c k }
 {
     let at = RECORD_WORDS * (c as usize) + k as usize;
-    if at < pool.len() {
-        return pool[at];
-    }
-    0
+    pool.get(at).copied().unwrap_or(0)
 }
 
 // The label, plus 256 if the record has a value.
@@ -62,6 +60,7 @@ pub fn parent_of(pool: &[u32], c: u32) -> u32
 }
 
 // The highest record that may be in use.
+#[tactic(auto, unfolding(crate::specs::Words::last_record))]
 pub fn last_record(pool: &[u32]) -> u32
     ensures { result ≡ last_record pool.now }
 {
@@ -69,6 +68,7 @@ pub fn last_record(pool: &[u32]) -> u32
 }
 
 // How many records are in use, the root left out.
+#[tactic(auto, unfolding(crate::specs::Words::used_count))]
 pub fn used_count(pool: &[u32]) -> u32
     ensures { result ≡ used_count pool.now }
 {
@@ -80,11 +80,5 @@ pub fn capacity_of(pool: &[u32]) -> u32
     ensures { result ≡ capacity pool.now }
 {
     let records = pool.len() / RECORD_WORDS;
-    if records == 0 {
-        return 0;
-    }
-    if MOST_RECORDS as usize <= records - 1 {
-        return MOST_RECORDS;
-    }
-    (records - 1) as u32
+    records.saturating_sub(1).min(MOST_RECORDS as usize) as u32
 }

@@ -15,14 +15,6 @@ use Rattle.searches.specs.contracts.common_prefixes.common_prefix_part
 use Rattle.searches.proofs.common_prefixes.common_prefix_part.Reads as common-prefix-part-reads
 use Rattle.searches.specs.contracts.prefix.longest_prefix
 use Rattle.searches.proofs.prefix.longest_prefix.Reads as longest-prefix-reads
-use Rattle.searches.specs.contracts.answers.Looked.number as looked-number
-use Rattle.searches.proofs.answers.Looked.number.Reads as looked-number-reads
-use Rattle.searches.specs.contracts.answers.Prefixed.number as prefixed-number
-use Rattle.searches.proofs.answers.Prefixed.number.Reads as prefixed-number-reads
-use Rattle.searches.specs.contracts.answers.Longest.number as longest-number
-use Rattle.searches.proofs.answers.Longest.number.Reads as longest-number-reads
-use Rattle.searches.specs.contracts.answers.Common.number as common-number
-use Rattle.searches.proofs.answers.Common.number.Reads as common-number-reads
 
 pub exact-match-asks-nothing : (κs : Lfts 4) (a : ArgsD exact_match.signature κs) → exact-match-reads.Pre κs a
 exact-match-asks-nothing κs a = tt
@@ -44,15 +36,3 @@ common-prefix-part-asks-nothing κs a = tt
 
 pub longest-prefix-asks-nothing : (κs : Lfts 5) (a : ArgsD longest_prefix.signature κs) → longest-prefix-reads.Pre κs a
 longest-prefix-asks-nothing κs a = tt
-
-pub looked-number-asks-nothing : (κs : Lfts 0) (a : ArgsD looked-number.signature κs) → looked-number-reads.Pre κs a
-looked-number-asks-nothing κs a = tt
-
-pub prefixed-number-asks-nothing : (κs : Lfts 0) (a : ArgsD prefixed-number.signature κs) → prefixed-number-reads.Pre κs a
-prefixed-number-asks-nothing κs a = tt
-
-pub longest-number-asks-nothing : (κs : Lfts 0) (a : ArgsD longest-number.signature κs) → longest-number-reads.Pre κs a
-longest-number-asks-nothing κs a = tt
-
-pub common-number-asks-nothing : (κs : Lfts 0) (a : ArgsD common-number.signature κs) → common-number-reads.Pre κs a
-common-number-asks-nothing κs a = tt

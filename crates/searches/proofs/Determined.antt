@@ -27,18 +27,6 @@ use Rattle.searches.proofs.prefix.longest_prefix.Reads as longest-prefix-reads
 use Rattle.searches.specs.contracts.untested.exact_match_untested
 use Rattle.searches.proofs.untested.exact_match_untested.Kinds as exact-match-untested-kinds
 use Rattle.searches.proofs.untested.exact_match_untested.Reads as exact-match-untested-reads
-use Rattle.searches.specs.contracts.answers.Looked.number as looked-number
-use Rattle.searches.proofs.answers.Looked.number.Kinds as looked-number-kinds
-use Rattle.searches.proofs.answers.Looked.number.Reads as looked-number-reads
-use Rattle.searches.specs.contracts.answers.Prefixed.number as prefixed-number
-use Rattle.searches.proofs.answers.Prefixed.number.Kinds as prefixed-number-kinds
-use Rattle.searches.proofs.answers.Prefixed.number.Reads as prefixed-number-reads
-use Rattle.searches.specs.contracts.answers.Longest.number as longest-number
-use Rattle.searches.proofs.answers.Longest.number.Kinds as longest-number-kinds
-use Rattle.searches.proofs.answers.Longest.number.Reads as longest-number-reads
-use Rattle.searches.specs.contracts.answers.Common.number as common-number
-use Rattle.searches.proofs.answers.Common.number.Kinds as common-number-kinds
-use Rattle.searches.proofs.answers.Common.number.Reads as common-number-reads
 
 module _ (κs : Lfts 4) where
   pub exact-match-determined : (a : ArgsD exact_match.signature κs) (r₁ r₂ : ResD exact_match.signature κs) (s₁ s₂ : AtExit (ended_of 4 exact-match-kinds.ps exact-match-kinds.r) κs)
@@ -69,20 +57,3 @@ module _ (κs : Lfts 5) where
   pub longest-prefix-determined : (a : ArgsD longest_prefix.signature κs) (r₁ r₂ : ResD longest_prefix.signature κs) (s₁ s₂ : AtExit (ended_of 5 longest-prefix-kinds.ps longest-prefix-kinds.r) κs)
       → longest-prefix-reads.Post κs a r₁ s₁ → longest-prefix-reads.Post κs a r₂ s₂ → (r₁ ≡ r₂) × (s₁.1.1.1.1.0.now ≡ s₂.1.1.1.1.0.now)
   longest-prefix-determined a r₁ r₂ s₁ s₂ p q = (said_longest-one r₁ r₂ (p.0 ∙ sym q.0), p.1 ∙ sym q.1)
-
-module _ (κs : Lfts 0) where
-  pub looked-number-determined : (a : ArgsD looked-number.signature κs) (r₁ r₂ : ResD looked-number.signature κs) (s₁ s₂ : AtExit (ended_of 0 looked-number-kinds.ps looked-number-kinds.r) κs)
-      → looked-number-reads.Post κs a r₁ s₁ → looked-number-reads.Post κs a r₂ s₂ → r₁ ≡ r₂
-  looked-number-determined a r₁ r₂ s₁ s₂ p q = p ∙ sym q
-
-  pub prefixed-number-determined : (a : ArgsD prefixed-number.signature κs) (r₁ r₂ : ResD prefixed-number.signature κs) (s₁ s₂ : AtExit (ended_of 0 prefixed-number-kinds.ps prefixed-number-kinds.r) κs)
-      → prefixed-number-reads.Post κs a r₁ s₁ → prefixed-number-reads.Post κs a r₂ s₂ → r₁ ≡ r₂
-  prefixed-number-determined a r₁ r₂ s₁ s₂ p q = p ∙ sym q
-
-  pub longest-number-determined : (a : ArgsD longest-number.signature κs) (r₁ r₂ : ResD longest-number.signature κs) (s₁ s₂ : AtExit (ended_of 0 longest-number-kinds.ps longest-number-kinds.r) κs)
-      → longest-number-reads.Post κs a r₁ s₁ → longest-number-reads.Post κs a r₂ s₂ → r₁ ≡ r₂
-  longest-number-determined a r₁ r₂ s₁ s₂ p q = p ∙ sym q
-
-  pub common-number-determined : (a : ArgsD common-number.signature κs) (r₁ r₂ : ResD common-number.signature κs) (s₁ s₂ : AtExit (ended_of 0 common-number-kinds.ps common-number-kinds.r) κs)
-      → common-number-reads.Post κs a r₁ s₁ → common-number-reads.Post κs a r₂ s₂ → r₁ ≡ r₂
-  common-number-determined a r₁ r₂ s₁ s₂ p q = p ∙ sym q

@@ -2,7 +2,6 @@
 -- Each tie is over the contract's own claim, so a contract that cites another definition breaks it. Assumes nothing.
 use mathlib.Core.Path.{◌≡◌}
 use Rattle.keymap.specs.Contract.{Tells}
-use Rattle.keymap.specs.Answers.{answer_number}
 use Rattle.image.specs.Meaning.{as_image, image_in}
 use Rattle.searches.specs.Answers.{said_looked, said_prefixed, said_longest, said_common}
 use Rattle.searches.specs.Exact.{exact_says, set_values, is_prefix_says}
@@ -23,14 +22,6 @@ use Rattle.searches.proofs.common_prefixes.common_prefix_part.Kinds as common-pr
 use Rattle.searches.proofs.common_prefixes.common_prefix_part.Reads as common-prefix-part-reads
 use Rattle.searches.proofs.prefix.longest_prefix.Kinds as longest-prefix-kinds
 use Rattle.searches.proofs.prefix.longest_prefix.Reads as longest-prefix-reads
-use Rattle.searches.proofs.answers.Looked.number.Kinds as looked-number-kinds
-use Rattle.searches.proofs.answers.Looked.number.Reads as looked-number-reads
-use Rattle.searches.proofs.answers.Prefixed.number.Kinds as prefixed-number-kinds
-use Rattle.searches.proofs.answers.Prefixed.number.Reads as prefixed-number-reads
-use Rattle.searches.proofs.answers.Longest.number.Kinds as longest-number-kinds
-use Rattle.searches.proofs.answers.Longest.number.Reads as longest-number-reads
-use Rattle.searches.proofs.answers.Common.number.Kinds as common-number-kinds
-use Rattle.searches.proofs.answers.Common.number.Reads as common-number-reads
 
 pub exact-match-says : Tells 4 exact-match-kinds.ps exact-match-kinds.r exact-match-reads.Post (λ κs a r s. said_looked r ≡ exact_says (image_in a.0 a.1.0 a.1.1.0) a.1.1.1.0.now)
 exact-match-says κs a r s p = p
@@ -52,15 +43,3 @@ common-prefix-part-says κs a r s p = p
 
 pub longest-prefix-says : Tells 5 longest-prefix-kinds.ps longest-prefix-kinds.r longest-prefix-reads.Post (λ κs a r s. (said_longest r ≡ longest_says (image_in a.0 a.1.0 a.1.1.0) a.1.1.1.0.now a.1.1.1.1.0.now) × (s.1.1.1.1.0.now ≡ longest_out (image_in a.0 a.1.0 a.1.1.0) a.1.1.1.0.now a.1.1.1.1.0.now))
 longest-prefix-says κs a r s p = p
-
-pub looked-number-says : Tells 0 looked-number-kinds.ps looked-number-kinds.r looked-number-reads.Post (λ κs a r s. r ≡ answer_number (said_looked a.0))
-looked-number-says κs a r s p = p
-
-pub prefixed-number-says : Tells 0 prefixed-number-kinds.ps prefixed-number-kinds.r prefixed-number-reads.Post (λ κs a r s. r ≡ answer_number (said_prefixed a.0))
-prefixed-number-says κs a r s p = p
-
-pub longest-number-says : Tells 0 longest-number-kinds.ps longest-number-kinds.r longest-number-reads.Post (λ κs a r s. r ≡ answer_number (said_longest a.0))
-longest-number-says κs a r s p = p
-
-pub common-number-says : Tells 0 common-number-kinds.ps common-number-kinds.r common-number-reads.Post (λ κs a r s. r ≡ answer_number (said_common a.0))
-common-number-says κs a r s p = p

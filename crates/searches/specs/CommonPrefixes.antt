@@ -20,7 +20,6 @@ use Rattle.image.specs.AcceptTest.{image_test}
 use Rattle.image.specs.AcceptAnswer.{on_image}
 use Rattle.walks.specs.Rule.{step_by, value_at_end}
 use Rattle.searches.specs.declared.answers.Common.{Common}
-use Rattle.searches.specs.declared.answers.Common.TheVariants.{Match, NoMatch, NotAnImage}
 
 -- what was found at a depth, unless that much was seen
 abbrev pub unless_seen : ℕ → ℕ → Option ℕ → Option ℕ
@@ -40,9 +39,9 @@ shortest_from i seen (a ∷ q) depth at =
     or_further (depth + 1) (unless_seen seen (depth + 1) (value_at_end i.labels i.values next))
     (shortest_from i seen q (depth + 1) next)
 
-abbrev pub match_of : Option (ℕ × ℕ) → Common
-match_of None = NoMatch
-match_of (Some e) = Match e.0 e.1
+abbrev pub match_of : Option (ℕ × ℕ) → Option Common
+match_of None = None
+match_of (Some e) = Some (record { length = e.0; value = e.1 })
 
 -- ---- what the calls promise, of the map
 
@@ -60,9 +59,3 @@ part_of q (Some e) = take (length e.0) q
 -- the leading part of the query, empty where the first call refuses or has no match
 unfoldable pub common_part : Image → Key → ℕ → Key
 common_part i q seen = cond (image_test i) (part_of q (common_prefix_in q seen (image_map i))) []
-
--- how long that part is
-abbrev pub part_length : Common → ℕ
-part_length (Match length value) = length
-part_length NoMatch = 0
-part_length NotAnImage = 0

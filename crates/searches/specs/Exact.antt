@@ -19,18 +19,17 @@ use Rattle.image.specs.AcceptTest.{image_test}
 use Rattle.image.specs.AcceptAnswer.{on_image}
 use Rattle.walks.specs.Rule.{walked, node_by, found_by}
 use Rattle.walks.specs.Stands.{stand_at, kids_from}
-use Rattle.searches.specs.declared.exact.Keyed.{Keyed}
-use Rattle.searches.specs.declared.exact.Keyed.TheVariants.{At, NoKey}
+use Rattle.walks.specs.declared.entries.KeyNode.{KeyNode}
 
 -- ---- on any slices
 
 -- a key by its node and its value
-abbrev pub keyed : Option ℕ → Option ℕ → Keyed
-keyed None o = NoKey
-keyed (Some m) None = NoKey
-keyed (Some m) (Some v) = At m v
+abbrev pub keyed : Option ℕ → Option ℕ → Option KeyNode
+keyed None o = None
+keyed (Some m) None = None
+keyed (Some m) (Some v) = Some (record { node = m; value = v })
 
-unfoldable pub keyed_in : Image → Key → Keyed
+unfoldable pub keyed_in : Image → Key → Option KeyNode
 keyed_in i q = keyed (node_by i q) (found_by i q)
 
 abbrev pub goes_on_from : (ℕ → ℕ) → ℕ → Option ℕ → Bool

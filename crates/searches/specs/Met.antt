@@ -13,7 +13,6 @@ use Rattle.keymap.specs.Key.{Key}
 use Rattle.keymap.specs.Bits.{bit}
 use Rattle.keymap.specs.Image.{Image, bits_for}
 use Rattle.louds.specs.declared.answers.Children.{Children}
-use Rattle.louds.specs.Nodes.{Run}
 use Rattle.louds.specs.Nodes.{children_of}
 use Rattle.image.specs.Accept.{entries, node_entry, node_value}
 use Rattle.image.specs.AcceptTest.{lengths_fit}
@@ -26,7 +25,7 @@ counted n k (suc left) m = cond (counts n k m) (m ∷ counted n k left (m + 1)) 
 
 abbrev pub counted_among : ℕ → ℕ → Option Children → List ℕ
 counted_among n k None = []
-counted_among n k (Run first count) = counted n k count first
+counted_among n k (Some run) = counted n k run.count run.first
 
 -- the counted children of the node where a walk is
 abbrev pub siblings_at : List ℕ → (ℕ → ℕ) → ℕ → Option ℕ → List ℕ
@@ -49,7 +48,7 @@ looked_at ls k (suc left) m a =
 
 abbrev pub looked_among : List ℕ → ℕ → Option Children → ℕ → List ℕ
 looked_among ls k None a = []
-looked_among ls k (Run first count) a = looked_at ls k count first a
+looked_among ls k (Some run) a = looked_at ls k run.count run.first a
 
 abbrev pub looked_over : List ℕ → (ℕ → ℕ) → ℕ → ℕ → Option ℕ → List ℕ
 looked_over ls b len a None = []

@@ -5,18 +5,25 @@ ghost use Rattle.std.specs.Prelude.{◌≡◌, Some};
 ghost use Rattle.image.specs.Meaning.{lent_image};
 ghost use Rattle.walks.specs.Rule.{value_of_node};
 ghost use Rattle.searches.specs.Answers.{said_common};
-ghost use Rattle.searches.specs.CommonPrefixes.{unless_seen, shortest_from, match_of, common_says, part_length};
+ghost use Rattle.searches.specs.CommonPrefixes.{unless_seen, shortest_from, match_of, common_says};
 ghost use Rattle.searches.specs.CommonPrefixes.{common_part};
 
 use crate::answers::Common;
-use image::is_image;
+use image::accept;
+use keymap::Refusal;
 use walks::entries::value_at;
 use walks::moves::down;
 use walks::stands::stand_at;
 
 // The value of a node at a depth, unless that much was seen.
-fn unseen_value(labels: &[u16], values: &[u32], node: usize, depth: usize, seen: usize) -> Option<u32>
-    ensures { result ≡ (unless_seen seen depth (value_of_node labels.now values.now node)) }
+fn unseen_value(
+    labels: &[u16],
+    values: &[u32],
+    node: usize,
+    depth: usize,
+    seen: usize,
+) -> Option<u32>
+    ensures { result ≡ unless_seen seen depth (value_of_node labels.now values.now node) }
 {
     if depth <= seen {
         return None;
@@ -25,30 +32,26 @@ fn unseen_value(labels: &[u16], values: &[u32], node: usize, depth: usize, seen:
 }
 
 // The shortest key, by a walk down the query that stops at the first value past what was seen: the image is not tested.
-fn shortest(labels: &[u16], values: &[u32], words: &[u64], query: &[u8], seen: usize) -> Common
+fn shortest(
+    labels: &[u16],
+    values: &[u32],
+    words: &[u64],
+    query: &[u8],
+    seen: usize,
+) -> Option<Common>
     ensures { result
         ≡ match_of (shortest_from (lent_image labels values words) seen query.now 0 (Some 1)) }
 {
     let len = 2 * labels.len() + 3;
     let mut s = stand_at(words, len, 1);
-    let mut depth: usize = 0;
-    while depth < query.len() {
-        let Some(t) = down(labels, words, len, s, query[depth]) else {
-            return Common::NoMatch;
-        };
-        s = t;
-        depth += 1;
-        match unseen_value(labels, values, t.node, depth, seen) {
-            Some(value) => {
-                return Common::Match {
-                    length: depth,
-                    value,
-                };
-            }
-            None => {}
+    for depth in 0..query.len() {
+        s = down(labels, words, len, s, query[depth])?;
+        let length = depth + 1;
+        if let Some(value) = unseen_value(labels, values, s.node, length, seen) {
+            return Some(Common { length, value });
         }
     }
-    Common::NoMatch
+    None
 }
 
 // The shortest key that is a prefix of the query and longer than what was seen: its length and value.
@@ -58,23 +61,11 @@ pub fn common_prefix(
     words: &[u64],
     query: &[u8],
     seen: usize,
-) -> Common
+) -> Result<Option<Common>, Refusal>
     ensures answer { said_common result ≡ common_says (lent_image labels values words) query.now seen }
 {
-    if !is_image(labels, values, words) {
-        return Common::NotAnImage;
-    }
-    shortest(labels, values, words, query, seen)
-}
-
-fn part_length(found: Common) -> usize
-    ensures { result ≡ part_length found }
-{
-    match found {
-        Common::Match { length, value: _ } => length,
-        Common::NoMatch => 0,
-        Common::NotAnImage => 0,
-    }
+    accept(labels, values, words)?;
+    Ok(shortest(labels, values, words, query, seen))
 }
 
 // That key as the leading part of the query itself, empty where `common_prefix` refuses or has no match.
@@ -88,7 +79,9 @@ pub fn common_prefix_part<'a>(
     ensures part { result.now ≡ common_part (lent_image labels values words) query.now seen }
     ensures leading { result.ref_ptr ≡ query.entry.ref_ptr }
 {
-    let found = common_prefix(labels, values, words, query, seen);
-    let length = part_length(found);
-    &query[..length]
+    match common_prefix(labels, values, words, query, seen) {
+        Ok(Some(common)) => &query[..common.length],
+        Ok(None) => &query[..0],
+        Err(_) => &query[..0],
+    }
 }

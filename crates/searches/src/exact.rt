@@ -3,47 +3,45 @@
 // The image is tested before anything else, so a refused image answers NotAnImage for the empty query too.
 ghost use Rattle.std.specs.Prelude.{◌≡◌};
 ghost use Rattle.image.specs.Meaning.{as_image, lent_image};
+ghost use Rattle.walks.specs.Rule.{found_by};
 ghost use Rattle.searches.specs.Answers.{said_looked, said_prefixed};
 ghost use Rattle.searches.specs.Exact.{keyed_in, goes_on, exact_says, set_values, is_prefix_says};
 
-use crate::answers::{Looked, Prefixed};
 use descents::{end_of, walk};
-use image::is_image;
-use walks::entries::value_at;
+use image::accept;
+use keymap::Refusal;
+use walks::entries::{KeyNode, value_at};
 use walks::stands::kids;
 
-// A key by its node.
-#[derive(Clone, Copy)]
-pub enum Keyed {
-    At { node: usize, value: u32 },
-    NoKey,
-}
-
 // The node and the value of a key, by R-7's rule: the image is not tested.
-pub fn find(labels: &[u16], values: &[u32], words: &[u64], query: &[u8]) -> Keyed
+pub fn find(labels: &[u16], values: &[u32], words: &[u64], query: &[u8]) -> Option<KeyNode>
     ensures { result ≡ keyed_in (lent_image labels values words) query.now }
 {
     let len = 2 * labels.len() + 3;
-    let Some(node) = end_of(labels, words, len, query) else {
-        return Keyed::NoKey;
-    };
-    match value_at(labels, values, node) {
-        Some(value) => Keyed::At { node, value },
-        None => Keyed::NoKey,
-    }
+    let node = end_of(labels, words, len, query)?;
+    let value = value_at(labels, values, node)?;
+    Some(KeyNode { node, value })
+}
+
+// Its value alone.
+pub fn value_of(labels: &[u16], values: &[u32], words: &[u64], query: &[u8]) -> Option<u32>
+    ensures { result ≡ found_by (lent_image labels values words) query.now }
+{
+    let key = find(labels, values, words, query)?;
+    Some(key.value)
 }
 
 // The value of a key. The empty query is no key.
-pub fn exact_match(labels: &[u16], values: &[u32], words: &[u64], query: &[u8]) -> Looked
+pub fn exact_match(
+    labels: &[u16],
+    values: &[u32],
+    words: &[u64],
+    query: &[u8],
+) -> Result<Option<u32>, Refusal>
     ensures answer { said_looked result ≡ exact_says (lent_image labels values words) query.now }
 {
-    if !is_image(labels, values, words) {
-        return Looked::NotAnImage;
-    }
-    let Keyed::At { node: _, value } = find(labels, values, words, query) else {
-        return Looked::NoMatch;
-    };
-    Looked::Value(value)
+    accept(labels, values, words)?;
+    Ok(value_of(labels, values, words, query))
 }
 
 // Sets the value of a key that is there, and answers the one that it had. Nothing else is written.
@@ -53,19 +51,17 @@ pub fn set_value(
     words: &[u64],
     query: &[u8],
     value: u32,
-) -> Looked
+) -> Result<Option<u32>, Refusal>
     ensures answer { said_looked result ≡ exact_says (as_image labels.now values.old words.now) query.now }
     ensures written { values.new
         ≡ set_values (as_image labels.now values.old words.now) query.now value }
 {
-    if !is_image(labels, values, words) {
-        return Looked::NotAnImage;
-    }
-    let Keyed::At { node, value: old } = find(labels, values, words, query) else {
-        return Looked::NoMatch;
+    accept(labels, values, words)?;
+    let Some(key) = find(labels, values, words, query) else {
+        return Ok(None);
     };
-    values[node - 2] = value;
-    Looked::Value(old)
+    values[key.node - 2] = value;
+    Ok(Some(key.value))
 }
 
 // Whether the node at a query has children.
@@ -81,15 +77,14 @@ fn goes_on(labels: &[u16], words: &[u64], query: &[u8]) -> bool
 }
 
 // Whether some key begins with a query and is longer.
-pub fn is_prefix(labels: &[u16], values: &[u32], words: &[u64], query: &[u8]) -> Prefixed
+pub fn is_prefix(
+    labels: &[u16],
+    values: &[u32],
+    words: &[u64],
+    query: &[u8],
+) -> Result<bool, Refusal>
     ensures answer { said_prefixed result ≡ is_prefix_says (lent_image labels values words) query.now }
 {
-    if !is_image(labels, values, words) {
-        return Prefixed::NotAnImage;
-    }
-    if goes_on(labels, words, query) {
-        Prefixed::Yes
-    } else {
-        Prefixed::No
-    }
+    accept(labels, values, words)?;
+    Ok(goes_on(labels, words, query))
 }

@@ -6,19 +6,21 @@ ghost use Rattle.image.specs.Meaning.{lent_image};
 ghost use Rattle.searches.specs.Answers.{said_looked};
 ghost use Rattle.searches.specs.Untested.{untested_says};
 
-use crate::answers::Looked;
-use crate::exact::{Keyed, find};
+use crate::exact::value_of;
 use image::lengths_fit;
+use keymap::Refusal;
 
 // The value of a key in the first 2n+3 bits, whatever they are. The empty query is no key.
-pub fn exact_match_untested(labels: &[u16], values: &[u32], words: &[u64], query: &[u8]) -> Looked
+pub fn exact_match_untested(
+    labels: &[u16],
+    values: &[u32],
+    words: &[u64],
+    query: &[u8],
+) -> Result<Option<u32>, Refusal>
     ensures answer { said_looked result ≡ untested_says (lent_image labels values words) query.now }
 {
     if !lengths_fit(labels, values, words) {
-        return Looked::NotAnImage;
+        return Err(Refusal::NotAnImage);
     }
-    let Keyed::At { node: _, value } = find(labels, values, words, query) else {
-        return Looked::NoMatch;
-    };
-    Looked::Value(value)
+    Ok(value_of(labels, values, words, query))
 }

@@ -11,6 +11,7 @@ use native.Mathlib.Omega.{arith}
 use mathlib.Core.Bool.{Bool, true, false, and-false}
 use mathlib.Core.List.{List, [], ◌∷◌, ◌++◌}
 use Rattle.std.specs.Prelude.{Option, None, Some}
+use Rattle.std.specs.Option.{option_or}
 use lib.ListN.{length, get_or}
 use lib.Dec.{ltb}
 use borrow.Author.Tests.{lt-ltb, le-ltb, le-leb, eq-eqb}
@@ -38,8 +39,7 @@ use Rattle.walks.specs.Rule.{counts_to, value_of_node}
 use Rattle.walks.proofs.Laws.MapImage.{length-nodes, run-node}
 use Rattle.walks.proofs.Laws.MapWalk.{kid, node-value}
 use Rattle.walks.proofs.Laws.Rule.{counts_to-upto}
-use Rattle.climbs.specs.declared.order.Given.TheVariants.{Entry, Nothing}
-use Rattle.climbs.specs.Order.{or_else, first_by, one_behind, beside_by, climbed_from, climb_by, advance_by, sought_from, next_by, given_of, UnderTop, given_by}
+use Rattle.climbs.specs.Order.{first_by, one_behind, beside_by, climbed_from, climb_by, advance_by, sought_from, next_by, given_of, UnderTop, given_by}
 use Rattle.climbs.proofs.Laws.MapClimb.{upper-node, StepUp, step-up, upper-path}
 use Rattle.climbs.proofs.Laws.Order.{one_behind-inside, one_behind-told, first_run, beside_at, climbed-top, climbed-on, next-starts, sought-done, sought-lost, sought-value, sought-on}
 
@@ -131,14 +131,14 @@ record Seeking (m : Map) (top node at : ℕ) : Type 0 where
   same : least_above (path_of m node) (beginning (path_of m top) m) ≡ least_above (path_of m at) (beginning (path_of m top) m)
 
 module _ (m : Map) (c : Catalogue m) (top node at : ℕ) (seeking : Seeking m top node at) where
-  seek-ends : LastIn (paths_below m (path_of m top)) (path_of m at) → given_by m (least_above (path_of m node) (beginning (path_of m top) m)) ≡ Nothing
+  seek-ends : LastIn (paths_below m (path_of m top)) (path_of m at) → given_by m (least_above (path_of m node) (beginning (path_of m top) m)) ≡ None
   seek-ends n = ap (given_by m) (seeking.same ∙ least_above-last m c.rising (path_of m top) (path_of m at) n)
 
   module _ (next : ℕ) (inside : IsNode m next) (n : NextIn (paths_below m (path_of m top)) (path_of m at) (path_of m next)) where
-    seek_found : (v : ℕ) → lookup (path_of m next) m ≡ Some v → given_by m (least_above (path_of m node) (beginning (path_of m top) m)) ≡ Entry next v
+    seek_found : (v : ℕ) → lookup (path_of m next) m ≡ Some v → given_by m (least_above (path_of m node) (beginning (path_of m top) m)) ≡ Some (record { node = next; value = v })
     seek_found v e =
         ap (given_by m) (seeking.same ∙ least_above-valued m c.rising (path_of m top) (path_of m at) (path_of m next) v n e)
-        ∙ ap (λ (k : ℕ). Entry k v) (node_of-path_of m c.rising next inside)
+        ∙ (λ x. Some (record { node = node_of-path_of m c.rising next inside x; value = v }))
 
     seek-on : lookup (path_of m next) m ≡ None → Seeking m top node next
     seek-on e = record {
@@ -271,14 +271,14 @@ module _ (i : Image) (h : MapImage i) where
       go (yes e) goes_on = subst (Landed m (paths_below m (path_of m top)) (path_of m node)) (sym (climbed-top b len last top at (suc left) e)) (climb-ends m h.catalogue top node under at e k)
       go (no d) goes_on =
           subst (Landed m (paths_below m (path_of m top)) (path_of m node))
-          (sym (climbed-on b len last top at left d ∙ ap (λ (o : Option ℕ). or_else (beside_by b len last at) (climbed_from b len last top left o)) (upper-path i h at k.inside low)))
+          (sym (climbed-on b len last top at left d ∙ ap (λ (o : Option ℕ). option_or (beside_by b len last at) (climbed_from b len last top left o)) (upper-path i h at k.inside low)))
           (turn (beside_by b len last at) (beside-lands at k.inside low))
         where
           low : 2 ≤ at
           low = climb-higher m h.catalogue top node under at k d
 
           turn : (o : Option ℕ) → Landed m (children_in m (upper (path_of m at))) (path_of m at) o
-              → Landed m (paths_below m (path_of m top)) (path_of m node) (or_else o (climbed_from b len last top left (Some up)))
+              → Landed m (paths_below m (path_of m top)) (path_of m node) (option_or o (climbed_from b len last top left (Some up)))
           turn (Some j) (inside, next) = (inside, climb-sibling m h.catalogue top node under at k d (path_of m j) next)
           turn None none-next =
               goes_on up (omega (arith, l, (step-up m h.catalogue at k.inside low).lower)) (climb-up m h.catalogue top node under at k d none-next)
@@ -288,7 +288,7 @@ module _ (i : Image) (h : MapImage i) where
   advance-lands top at under = turn (first_by b len last at) (first-lands at under.inside)
     where
       turn : (o : Option ℕ) → Landed m (children_in m (path_of m at)) (path_of m at) o
-          → Landed m (paths_below m (path_of m top)) (path_of m at) (or_else o (climbed_from b len last top (suc at) (Some at)))
+          → Landed m (paths_below m (path_of m top)) (path_of m at) (option_or o (climbed_from b len last top (suc at) (Some at)))
       turn (Some j) (inside, next) = (inside, next-child m (path_of m top) (path_of m at) (path_of m j) under.begins next)
       turn None none-next = climb-lands (suc at) top at under at (omega arith) (climb-starts m h.catalogue top at under none-next)
 

@@ -16,6 +16,7 @@ use native.Mathlib.Decide.{dec_le}
 use native.Mathlib.Omega.{arith}
 use mathlib.Core.Bool.{Bool, true, false, true≢false, cond, ◌&&◌, and-false}
 use Rattle.std.specs.Prelude.{Option, None, Some, unwrap_or}
+use Rattle.std.specs.Option.{option_or}
 use lib.Dec.{eqb, ltb}
 use borrow.Author.Tests.{lt-ltb, le-ltb, le-leb, lt-leb, ltb-true, eq-eqb, ne_eqb}
 use Rattle.keymap.specs.Bits.{sum_below}
@@ -28,9 +29,9 @@ use Rattle.image.proofs.Laws.BitTests.{both}
 use Rattle.walks.specs.Rule.{counts_to}
 use Rattle.walks.proofs.Laws.Rule.{counts_to-low}
 use Rattle.climbs.specs.declared.perches.Perch.{Perch}
-use Rattle.climbs.specs.Perches.{parent_by, perch_at, has_parent, parent_from, rise_at}
-use Rattle.climbs.specs.Order.{or_else, first_by, one_behind, beside_by, climbed_from, climb_by, advance_by}
-use Rattle.climbs.specs.Moves.{leads, behind_zero, first_from, beside_from, or_moved, climbed_rise, climb_from, advance_from, moved_at}
+use Rattle.climbs.specs.Perches.{parent_by, perch_at, has_parent, parent_from, perch_of}
+use Rattle.climbs.specs.Order.{first_by, one_behind, beside_by, climbed_from, climb_by, advance_by}
+use Rattle.climbs.specs.Moves.{leads, behind_zero, first_from, beside_from, climbed_rise, climb_from, advance_from}
 use Rattle.climbs.proofs.Laws.Perches.{has_parent-told, parent_from-none, parent_from-some, parent-rule}
 use Rattle.climbs.proofs.Laws.Order.{one_behind-far, one_behind-told, first-lost, first-at, beside-lost, beside_at}
 
@@ -160,7 +161,7 @@ module _ (b : ℕ → ℕ) (len last top : ℕ) where
   climbed-enough (suc f) zero (Some at) v w = absurd (omega (arith, w))
   climbed-enough (suc f) (suc g) None v w = refl
   climbed-enough (suc f) (suc g) (Some at) v w =
-      ap (λ (r : Option Perch). cond (eqb at.node top) None (or_moved (beside_from b len last at) r))
+      ap (λ (r : Option Perch). cond (eqb at.node top) None (option_or (beside_from b len last at) r))
       (climbed-enough f g (parent_from b len at) (rise-bounds at f v (parent_from b len at) refl) (rise-bounds at g w (parent_from b len at) refl))
 
   climbed-none : (f : ℕ) → climbed_rise b len last top f None ≡ None
@@ -204,7 +205,7 @@ module _ (b : ℕ → ℕ) (small : (i : ℕ) → b i ≤ 1) (len last : ℕ) wh
       let rank : sum_below b (z + 1) + 1 ≡ z + 2 - k = omega (arith, ones-zeros b small (z + 1), sum_below-next (gap b) z, s.rank, s.marked) in
       ap (λ (o : Option ℕ). unwrap_or o len) (ap (one_at b len) (sym rank) ∙ kth-rank b small len (z + 1) inside marked)
 
-  first-rule : (k : ℕ) → first_from b len last (perch_at b len k) ≡ moved_at b len (first_by b len last k)
+  first-rule : (k : ℕ) → first_from b len last (perch_at b len k) ≡ perch_of b len (first_by b len last k)
   first-rule k = go (one_at b len k) refl
     where
       -- where the child's number is not above the node's it does not count
@@ -217,7 +218,7 @@ module _ (b : ℕ → ℕ) (small : (i : ℕ) → b i ≤ 1) (len last : ℕ) wh
               first-at b small len last k z e
               ∙ rw (counts_to-low last k (z + 2 - k) (low z (rank-kth (gap b) (gap-small b) len k z e)), and-false (one_behind b len z))
 
-      known : (q : ℕ) → Stands b len k q → (t : Bool) → leads len k q ≡ t → first_from b len last (record { node = k; one = q }) ≡ moved_at b len (first_by b len last k)
+      known : (q : ℕ) → Stands b len k q → (t : Bool) → leads len k q ≡ t → first_from b len last (record { node = k; one = q }) ≡ perch_of b len (first_by b len last k)
       known q s true f = at_zero (zero_at b len k) refl
         where
           told : Leads len k q
@@ -229,19 +230,19 @@ module _ (b : ℕ → ℕ) (small : (i : ℕ) → b i ≤ 1) (len last : ℕ) wh
               ∙ ap (zero_at b len) (omega (arith, told, s.rank, ones-zeros b small q))
 
           child : (z : ℕ) → zero_at b len k ≡ Some z → (t : Bool) → (one_behind b len z && counts_to last k (z + 2 - k)) ≡ t
-              → behind_zero b len last k (Some z) ≡ moved_at b len (cond (one_behind b len z && counts_to last k (z + 2 - k)) (Some (z + 2 - k)) None)
+              → behind_zero b len last k (Some z) ≡ perch_of b len (cond (one_behind b len z && counts_to last k (z + 2 - k)) (Some (z + 2 - k)) None)
           child z e true g =
               let place = child-knows k z e (both (one_behind b len z) (counts_to last k (z + 2 - k)) g).0 in
               rw g (λ x. Some (record { node = z + 2 - k; one = sym place x }))
           child z e false g = rw g
 
-          at_zero : (t : Option ℕ) → zero_at b len k ≡ t → first_from b len last (record { node = k; one = q }) ≡ moved_at b len (first_by b len last k)
-          at_zero None e = first_from-missing b len last (record { node = k; one = q }) f (same ∙ e) ∙ sym (ap (moved_at b len) (first-lost b small len last k e))
+          at_zero : (t : Option ℕ) → zero_at b len k ≡ t → first_from b len last (record { node = k; one = q }) ≡ perch_of b len (first_by b len last k)
+          at_zero None e = first_from-missing b len last (record { node = k; one = q }) f (same ∙ e) ∙ sym (ap (perch_of b len) (first-lost b small len last k e))
           at_zero (Some z) e =
               first-zero b len last (record { node = k; one = q }) f (Some z) (same ∙ e)
               ∙ child z e (one_behind b len z && counts_to last k (z + 2 - k)) refl
-              ∙ sym (ap (moved_at b len) (first-at b small len last k z e))
-      known q s false f = first_from-far b len last (record { node = k; one = q }) f ∙ sym (ap (moved_at b len) (bare (λ z r. low z r (dec_le k (q + 1 - k)))))
+              ∙ sym (ap (perch_of b len) (first-at b small len last k z e))
+      known q s false f = first_from-far b len last (record { node = k; one = q }) f ∙ sym (ap (perch_of b len) (bare (λ z r. low z r (dec_le k (q + 1 - k)))))
         where
           low : (z : ℕ) → Stands (gap b) len k z → Dec (k ≤ q + 1 - k) → z + 2 - k ≤ k
           low z r (yes l) =
@@ -251,21 +252,21 @@ module _ (b : ℕ → ℕ) (small : (i : ℕ) → b i ≤ 1) (len last : ℕ) wh
               let may : leads len k q ≡ true = leads-last len k q s.inside (λ e. omega (arith, e, s.rank)) (omega (arith, s.rank, ones-zeros b small q)) ∙ lt-ltb (q + 1 - k) k (lt_of_not-le l) in
               absurd (true≢false (sym may ∙ f))
 
-      go : (t : Option ℕ) → one_at b len k ≡ t → first_from b len last (perch_at b len k) ≡ moved_at b len (first_by b len last k)
+      go : (t : Option ℕ) → one_at b len k ≡ t → first_from b len last (perch_at b len k) ≡ perch_of b len (first_by b len last k)
       go (Some q) e =
           let place : unwrap_or (one_at b len k) len ≡ q = ap (λ (o : Option ℕ). unwrap_or o len) e in
           ap (first_from b len last) (λ x. record { node = k; one = place x }) ∙ known q (rank-kth b small len k q e) (leads len k q) refl
       go None e =
           let place : unwrap_or (one_at b len k) len ≡ len = ap (λ (o : Option ℕ). unwrap_or o len) e in
           first_from-far b len last (perch_at b len k) (leads-far len k (unwrap_or (one_at b len k) len) (omega (arith, place)))
-          ∙ sym (ap (moved_at b len) (bare (λ z r. omega (arith, kth-missing b len k (omega (arith, r.rank)) e, r.rank, ones-zeros b small z, sum_below-mono b {i = z} {j = len} (omega (arith, r.inside))))))
+          ∙ sym (ap (perch_of b len) (bare (λ z r. omega (arith, kth-missing b len k (omega (arith, r.rank)) e, r.rank, ones-zeros b small z, sum_below-mono b {i = z} {j = len} (omega (arith, r.inside))))))
 
-  beside-rule : (k : ℕ) → beside_from b len last (perch_at b len k) ≡ moved_at b len (beside_by b len last k)
+  beside-rule : (k : ℕ) → beside_from b len last (perch_at b len k) ≡ perch_of b len (beside_by b len last k)
   unfolding beside_from
   beside-rule k = go (one_at b len k) refl
     where
       there : (q : ℕ) → one_at b len k ≡ Some q → (t : Bool) → (ltb k last && one_behind b len q) ≡ t
-          → beside_from b len last (record { node = k; one = q }) ≡ moved_at b len (cond (ltb k last && one_behind b len q) (Some (k + 1)) None)
+          → beside_from b len last (record { node = k; one = q }) ≡ perch_of b len (cond (ltb k last && one_behind b len q) (Some (k + 1)) None)
       there q e true g =
           let s = rank-kth b small len k q e in
           let (inside, marked) = one_behind-told b len q (both (ltb k last) (one_behind b len q) g).1 in
@@ -274,38 +275,38 @@ module _ (b : ℕ → ℕ) (small : (i : ℕ) → b i ≤ 1) (len last : ℕ) wh
           rw g (λ x. Some (record { node = k + 1; one = sym place x }))
       there q e false g = rw g
 
-      go : (t : Option ℕ) → one_at b len k ≡ t → beside_from b len last (perch_at b len k) ≡ moved_at b len (beside_by b len last k)
+      go : (t : Option ℕ) → one_at b len k ≡ t → beside_from b len last (perch_at b len k) ≡ perch_of b len (beside_by b len last k)
       go (Some q) e =
           let place : unwrap_or (one_at b len k) len ≡ q = ap (λ (o : Option ℕ). unwrap_or o len) e in
           ap (beside_from b len last) (λ x. record { node = k; one = place x })
           ∙ there q e (ltb k last && one_behind b len q) refl
-          ∙ sym (ap (moved_at b len) (beside_at b len last k q e))
+          ∙ sym (ap (perch_of b len) (beside_at b len last k q e))
       go None e =
           let place : unwrap_or (one_at b len k) len ≡ len = ap (λ (o : Option ℕ). unwrap_or o len) e in
-          rw (one_behind-far b len (unwrap_or (one_at b len k) len) (omega (arith, place)), and-false (ltb k last)) (sym (ap (moved_at b len) (beside-lost b len last k e)))
+          rw (one_behind-far b len (unwrap_or (one_at b len k) len) (omega (arith, place)), and-false (ltb k last)) (sym (ap (perch_of b len) (beside-lost b len last k e)))
 
-  moved-choice : (t : Bool) (x y : Option ℕ) → cond t None (or_moved (moved_at b len x) (moved_at b len y)) ≡ moved_at b len (cond t None (or_else x y))
+  moved-choice : (t : Bool) (x y : Option ℕ) → cond t None (option_or (perch_of b len x) (perch_of b len y)) ≡ perch_of b len (cond t None (option_or x y))
   moved-choice true x y = refl
   moved-choice false None y = refl
   moved-choice false (Some k) y = refl
 
-  climbed-rule : (f top : ℕ) (o : Option ℕ) → climbed_rise b len last top f (rise_at b len o) ≡ moved_at b len (climbed_from b len last top f o)
+  climbed-rule : (f top : ℕ) (o : Option ℕ) → climbed_rise b len last top f (perch_of b len o) ≡ perch_of b len (climbed_from b len last top f o)
   unfolding climbed_rise climbed_from
   climbed-rule zero top o = refl
   climbed-rule (suc f) top None = refl
   climbed-rule (suc f) top (Some k) =
-      ap₂ (λ (m : Option Perch) (r : Option Perch). cond (eqb k top) None (or_moved m (climbed_rise b len last top f r))) (beside-rule k) (parent-rule b small len k)
-      ∙ ap (λ (m : Option Perch). cond (eqb k top) None (or_moved (moved_at b len (beside_by b len last k)) m)) (climbed-rule f top (parent_by b len k))
+      ap₂ (λ (m : Option Perch) (r : Option Perch). cond (eqb k top) None (option_or m (climbed_rise b len last top f r))) (beside-rule k) (parent-rule b small len k)
+      ∙ ap (λ (m : Option Perch). cond (eqb k top) None (option_or (perch_of b len (beside_by b len last k)) m)) (climbed-rule f top (parent_by b len k))
       ∙ moved-choice (eqb k top) (beside_by b len last k) (climbed_from b len last top f (parent_by b len k))
 
-  climb-rule : (top k : ℕ) → climb_from b len last top (perch_at b len k) ≡ moved_at b len (climb_by b len last top k)
+  climb-rule : (top k : ℕ) → climb_from b len last top (perch_at b len k) ≡ perch_of b len (climb_by b len last top k)
   unfolding climb_from climb_by
   climb-rule top k = climbed-rule (suc k) top (Some k)
 
-  pub advance-rule : (top k : ℕ) → advance_from b len last top (perch_at b len k) ≡ moved_at b len (advance_by b len last top k)
+  pub advance-rule : (top k : ℕ) → advance_from b len last top (perch_at b len k) ≡ perch_of b len (advance_by b len last top k)
   unfolding advance_by
   advance-rule top k =
-      ap₂ or_moved (first-rule k) (climb-rule top k)
+      ap₂ option_or (first-rule k) (climb-rule top k)
       ∙ moved-choice false (first_by b len last k) (climb_by b len last top k)
 
 -- ---- what a move tells
@@ -316,13 +317,13 @@ pub record MovedTold (b : ℕ → ℕ) (len : ℕ) (o : Option ℕ) (t : Perch) 
   pub knows : t ≡ perch_at b len t.node
 
 module _ (b : ℕ → ℕ) (small : (i : ℕ) → b i ≤ 1) (len last top : ℕ) (at : Perch) (known : at ≡ perch_at b len at.node) (r : Option Perch) (e : r ≡ advance_from b len last top at) where
-  moved-is : moved_at b len (advance_by b len last top at.node) ≡ r
+  moved-is : perch_of b len (advance_by b len last top at.node) ≡ r
   moved-is = sym (e ∙ ap (advance_from b len last top) known ∙ advance-rule b small len last top at.node)
 
   pub moved_to : (t : Perch) → r ≡ Some t → MovedTold b len (advance_by b len last top at.node) t
   moved_to t f = go (advance_by b len last top at.node) (moved-is ∙ f)
     where
-      go : (o : Option ℕ) → moved_at b len o ≡ Some t → MovedTold b len o t
+      go : (o : Option ℕ) → perch_of b len o ≡ Some t → MovedTold b len o t
       go None g = let z : ◌≡◌ {A = ℕ} 0 1 = cc in absurd (omega arith)
       go (Some k) g =
           let same : perch_at b len k ≡ t = cc in
@@ -331,6 +332,6 @@ module _ (b : ℕ → ℕ) (small : (i : ℕ) → b i ≤ 1) (len last top : ℕ
   pub moved-lost : r ≡ None → advance_by b len last top at.node ≡ None
   moved-lost f = go (advance_by b len last top at.node) (moved-is ∙ f)
     where
-      go : (o : Option ℕ) → moved_at b len o ≡ None → o ≡ None
+      go : (o : Option ℕ) → perch_of b len o ≡ None → o ≡ None
       go None g = refl
       go (Some k) g = let z : ◌≡◌ {A = ℕ} 0 1 = cc in absurd (omega arith)

@@ -15,6 +15,7 @@ use native.Mathlib.Omega.{arith}
 use mathlib.Core.Bool.{Bool, true, false, true≢false, cond, ◌&&◌}
 use mathlib.Core.List.{List}
 use Rattle.std.specs.Prelude.{Option, None, Some, unwrap_or}
+use Rattle.std.specs.Option.{option_or}
 use lib.ListN.{length}
 use lib.Dec.{eqb, ltb}
 use borrow.Author.Tests.{lt-ltb, le-ltb, eq-eqb, ne_eqb, eqb-true}
@@ -29,7 +30,7 @@ use Rattle.louds.proofs.Laws.Nodes.{children-none, children-at}
 use Rattle.walks.specs.Rule.{value_of_node}
 use Rattle.walks.specs.Rule.{counts_to}
 use Rattle.climbs.specs.Perches.{parent_by}
-use Rattle.climbs.specs.Order.{or_else, first_of, first_by, one_behind, beside_of, beside_by, climbed_from, advance_by, with_value, sought_from, next_by}
+use Rattle.climbs.specs.Order.{first_of, first_by, one_behind, beside_of, beside_by, climbed_from, advance_by, with_value, sought_from, next_by}
 
 -- ---- numbers and places
 
@@ -130,7 +131,7 @@ module _ (b : ℕ → ℕ) (len last top k : ℕ) where
   climbed-top zero h = refl
   climbed-top (suc left) h = rw (eq-eqb k top h)
 
-  pub climbed-on : (left : ℕ) → ¬ (k ≡ top) → climbed_from b len last top (suc left) (Some k) ≡ or_else (beside_by b len last k) (climbed_from b len last top left (parent_by b len k))
+  pub climbed-on : (left : ℕ) → ¬ (k ≡ top) → climbed_from b len last top (suc left) (Some k) ≡ option_or (beside_by b len last k) (climbed_from b len last top left (parent_by b len k))
   unfolding climbed_from
   climbed-on left h = rw (ne_eqb k top h)
 
@@ -153,7 +154,7 @@ module _ (ls vs : List ℕ) (b : ℕ → ℕ) (len top : ℕ) where
   pub sought-value : (left k v : ℕ) → 0 < left → value_of_node ls vs k ≡ Some v → sought_from ls vs b len top left (Some k) ≡ Some (k, v)
   unfolding sought_from
   sought-value zero k v l e = absurd (omega arith)
-  sought-value (suc left) k v l e = ap (λ (o : Option ℕ). or_else (with_value k o) (sought_from ls vs b len top left (advance_by b len (length ls + 1) top k))) e
+  sought-value (suc left) k v l e = ap (λ (o : Option ℕ). option_or (with_value k o) (sought_from ls vs b len top left (advance_by b len (length ls + 1) top k))) e
 
   pub sought-on : (left k : ℕ) → 0 < left → value_of_node ls vs k ≡ None
       → sought_from ls vs b len top left (Some k) ≡ sought_from ls vs b len top (left - 1) (advance_by b len (length ls + 1) top k)
@@ -161,5 +162,5 @@ module _ (ls vs : List ℕ) (b : ℕ → ℕ) (len top : ℕ) where
   sought-on zero k l e = absurd (omega arith)
   sought-on (suc left) k l e =
       let back : suc left - 1 ≡ left = omega arith in
-      ap (λ (o : Option ℕ). or_else (with_value k o) (sought_from ls vs b len top left (advance_by b len (length ls + 1) top k))) e
+      ap (λ (o : Option ℕ). option_or (with_value k o) (sought_from ls vs b len top left (advance_by b len (length ls + 1) top k))) e
       ∙ ap (λ (n : ℕ). sought_from ls vs b len top n (advance_by b len (length ls + 1) top k)) (sym back)

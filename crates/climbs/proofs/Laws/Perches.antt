@@ -25,7 +25,7 @@ use Rattle.louds.proofs.Laws.Select.{Stands, rank-kth, kth-exists, kth-back}
 use Rattle.louds.proofs.Laws.Nodes.{parent-none, parent-at, parent-told}
 use Rattle.keymap.proofs.Laws.Sums.{sum_below-mono}
 use Rattle.climbs.specs.declared.perches.Perch.{Perch}
-use Rattle.climbs.specs.Perches.{below, parent_by, climbs, depth_by, perch_at, has_parent, parent_from, rise_at}
+use Rattle.climbs.specs.Perches.{below, parent_by, climbs, depth_by, perch_at, has_parent, parent_from, perch_of}
 
 -- ---- the test
 
@@ -141,10 +141,10 @@ module _ (b : ℕ → ℕ) (small : (i : ℕ) → b i ≤ 1) (len : ℕ) where
       let one : unwrap_or (one_at b len m) len ≡ k + (m - 1) = ap (λ (o : Option ℕ). unwrap_or o len) u.answer ∙ at in
       record { node = omega (arith, s.rank); inside = omega (arith, s.inside, at); perch = λ x. record { node = m; one = one x } }
 
-  pub parent-rule : (m : ℕ) → parent_from b len (perch_at b len m) ≡ rise_at b len (parent_by b len m)
+  pub parent-rule : (m : ℕ) → parent_from b len (perch_at b len m) ≡ perch_of b len (parent_by b len m)
   parent-rule m = go (one_at b len m) refl
     where
-      test : (q : ℕ) → one_at b len m ≡ Some q → Stands b len m q → (t : Bool) → has_parent len m q ≡ t → parent_from b len (record { node = m; one = q }) ≡ rise_at b len (parent_by b len m)
+      test : (q : ℕ) → one_at b len m ≡ Some q → Stands b len m q → (t : Bool) → has_parent len m q ≡ t → parent_from b len (record { node = m; one = q }) ≡ perch_of b len (parent_by b len m)
       test q e s true f =
           let h = has_parent-told len m q f in
           let up : ℕ = q - (m - 1) in
@@ -153,10 +153,10 @@ module _ (b : ℕ → ℕ) (small : (i : ℕ) → b i ≤ 1) (len : ℕ) where
           let one : unwrap_or (one_back b q (m - up)) q ≡ unwrap_or (one_at b len up) len = ap (λ (o : Option ℕ). unwrap_or o q) back ∙ sym (ap (λ (o : Option ℕ). unwrap_or o len) own.answer) in
           parent_from-some b len (record { node = m; one = q }) f
           ∙ (λ x. Some (record { node = up; one = one x }))
-          ∙ sym (ap (rise_at b len) (parent_by-node b len m up (parent-at b small len m q e) (omega (arith, h)) (omega (arith, h))))
+          ∙ sym (ap (perch_of b len) (parent_by-node b len m up (parent-at b small len m q e) (omega (arith, h)) (omega (arith, h))))
       test q e s false f =
           parent_from-none b len (record { node = m; one = q }) f
-          ∙ sym (ap (rise_at b len) (nowhere (dec_le m q)))
+          ∙ sym (ap (perch_of b len) (nowhere (dec_le m q)))
         where
           up : ℕ
           up = q - (m - 1)
@@ -171,7 +171,7 @@ module _ (b : ℕ → ℕ) (small : (i : ℕ) → b i ≤ 1) (len : ℕ) where
           nowhere (yes l) = high l (dec_le m up)
           nowhere (no l) = parent_by-zero b len m (parent-at b small len m q e ∙ ap Some (omega (arith, lt_of_not-le l, s, ones-zeros b small q)))
 
-      go : (t : Option ℕ) → one_at b len m ≡ t → parent_from b len (perch_at b len m) ≡ rise_at b len (parent_by b len m)
+      go : (t : Option ℕ) → one_at b len m ≡ t → parent_from b len (perch_at b len m) ≡ perch_of b len (parent_by b len m)
       go (Some q) e =
           let z : unwrap_or (one_at b len m) len ≡ q = ap (λ (o : Option ℕ). unwrap_or o len) e in
           ap (parent_from b len) (λ x. record { node = m; one = z x })
@@ -180,7 +180,7 @@ module _ (b : ℕ → ℕ) (small : (i : ℕ) → b i ≤ 1) (len : ℕ) where
           let z : unwrap_or (one_at b len m) len ≡ len = ap (λ (o : Option ℕ). unwrap_or o len) e in
           ap (parent_from b len) (λ x. record { node = m; one = z x })
           ∙ parent_from-none b len (record { node = m; one = len }) (has_parent-far len m len (omega arith))
-          ∙ sym (ap (rise_at b len) (parent_by-lost b len m (parent-none b len m e)))
+          ∙ sym (ap (perch_of b len) (parent_by-lost b len m (parent-none b len m e)))
 
 -- ---- climbs
 
@@ -237,13 +237,13 @@ pub record RiseTold (b : ℕ → ℕ) (len m : ℕ) (t : Perch) : Type 0 where
   pub lower : t.node < m
 
 module _ (b : ℕ → ℕ) (small : (i : ℕ) → b i ≤ 1) (len : ℕ) (at : Perch) (known : at ≡ perch_at b len at.node) (r : Option Perch) (e : r ≡ parent_from b len at) where
-  rise-is : rise_at b len (parent_by b len at.node) ≡ r
+  rise-is : perch_of b len (parent_by b len at.node) ≡ r
   rise-is = sym (e ∙ ap (parent_from b len) known ∙ parent-rule b small len at.node)
 
   pub rise-to : (t : Perch) → r ≡ Some t → RiseTold b len at.node t
   rise-to t f = go (parent_by b len at.node) refl (rise-is ∙ f)
     where
-      go : (o : Option ℕ) → parent_by b len at.node ≡ o → rise_at b len o ≡ Some t → RiseTold b len at.node t
+      go : (o : Option ℕ) → parent_by b len at.node ≡ o → perch_of b len o ≡ Some t → RiseTold b len at.node t
       go None p g = let z : ◌≡◌ {A = ℕ} 0 1 = cc in absurd (omega arith)
       go (Some k) p g =
           let same : perch_at b len k ≡ t = cc in
@@ -252,6 +252,6 @@ module _ (b : ℕ → ℕ) (small : (i : ℕ) → b i ≤ 1) (len : ℕ) (at : P
   pub rise-lost : r ≡ None → parent_by b len at.node ≡ None
   rise-lost f = go (parent_by b len at.node) refl (rise-is ∙ f)
     where
-      go : (o : Option ℕ) → parent_by b len at.node ≡ o → rise_at b len o ≡ None → parent_by b len at.node ≡ None
+      go : (o : Option ℕ) → parent_by b len at.node ≡ o → perch_of b len o ≡ None → parent_by b len at.node ≡ None
       go None p g = p
       go (Some k) p g = let z : ◌≡◌ {A = ℕ} 0 1 = cc in absurd (omega arith)

@@ -14,12 +14,12 @@ use Prim.Native.Nat.{ℕ, zero, suc, ◌+◌, ◌-◌, ◌≤◌, ◌<◌}
 use native.Mathlib.Nat.{lt_of_not-le}
 use native.Mathlib.Decide.{dec_le}
 use native.Mathlib.Omega.{arith}
-use mathlib.Core.Bool.{true, false, true≢false, cond}
+use mathlib.Core.Bool.{true, false, true≢false}
 use mathlib.Core.List.{List, [], ◌∷◌, ◌++◌, append_assoc}
-use Rattle.std.specs.Prelude.{Option, None, Some}
+use Rattle.std.specs.Prelude.{Option, None, Some, Result, Ok, Err}
 use lib.ListN.{length, get_or, take, drop, set, take-append-drop}
 use lib.Seq.{drop-length, take-suc, drop_at, set_at, length-take-le}
-use lib.Dec.{eqb, leb}
+use lib.Dec.{leb}
 use borrow.Author.Tests.{le-leb, lt-leb, leb-true}
 use Rattle.keymap.specs.Key.{Key, PrefixOf, last_byte}
 use Rattle.keymap.specs.Map.{Map, Catalogue, lookup}
@@ -29,6 +29,9 @@ use Rattle.keymap.specs.Image.{Image, bits_for}
 use Rattle.keymap.specs.Paths.{IsNode, path_of, node_of}
 use Rattle.keymap.specs.Steps.{upper}
 use Rattle.keymap.specs.Decode.{image_map}
+use Rattle.keymap.specs.Refusals.{refusal_number}
+use Rattle.keymap.specs.declared.refusals.Refusal.{Refusal}
+use Rattle.keymap.proofs.Laws.Refusals.{refusal-one}
 use Rattle.keymap.proofs.Laws.Key.{bytes-last}
 use Rattle.keymap.proofs.Laws.Begins.{prefix-iff, prefix_refl, prefix_trans, prefix-length}
 use Rattle.keymap.proofs.Laws.Label.{label_in-label_entry}
@@ -36,8 +39,6 @@ use Rattle.keymap.proofs.Laws.Paths.{path_of-root, path_of-in, path_bytes}
 use Rattle.image.specs.Accept.{entries}
 use Rattle.image.specs.Meaning.{MapImage}
 use Rattle.walks.proofs.Laws.MapImage.{length-nodes, entry-node}
-use Rattle.climbs.specs.declared.answers.Spelled.{Spelled}
-use Rattle.climbs.specs.declared.answers.Spelled.TheVariants as spelled
 use Rattle.climbs.specs.Perches.{parent_by}
 use Rattle.climbs.specs.Spelling.{has_entry, spelled_from, spelled_by, last_bytes, spelled_to, said_spelled}
 use Rattle.climbs.proofs.Laws.MapClimb.{step-up, upper-path}
@@ -209,16 +210,8 @@ module _ (i : Image) (h : MapImage i) where
 
 -- ---- answers
 
-abbrev told_spelled : List ℕ → Spelled
-told_spelled [] = spelled.NotAnImage
-told_spelled (a ∷ []) = cond (eqb a 6) spelled.NotAnImage (cond (eqb a 7) spelled.BadPlace spelled.KeyRoom)
-told_spelled (a ∷ n ∷ ns) = spelled.Wrote n
-
-told_spelled-said : (r : Spelled) → told_spelled (said_spelled r) ≡ r
-told_spelled-said (spelled.Wrote n) = refl
-told_spelled-said spelled.NotAnImage = refl
-told_spelled-said spelled.BadPlace = refl
-told_spelled-said spelled.KeyRoom = refl
-
-pub said_spelled-one : (r s : Spelled) → said_spelled r ≡ said_spelled s → r ≡ s
-said_spelled-one r s e = sym (told_spelled-said r) ∙ ap told_spelled e ∙ told_spelled-said s
+pub said_spelled-one : (r s : Result ℕ Refusal) → said_spelled r ≡ said_spelled s → r ≡ s
+said_spelled-one (Ok n) (Ok m) e = cc
+said_spelled-one (Ok n) (Err s) e = cc
+said_spelled-one (Err r) (Ok m) e = cc
+said_spelled-one (Err r) (Err s) e = let same : refusal_number r ≡ refusal_number s = cc in ap Err (refusal-one r s same)

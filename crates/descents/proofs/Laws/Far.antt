@@ -40,10 +40,9 @@ use Rattle.louds.proofs.Laws.Taking.{Taken, taken}
 use Rattle.walks.specs.declared.stands.Stand.{Stand}
 use Rattle.descents.specs.declared.far.Passed.{Passed}
 use Rattle.descents.specs.declared.far.Kept.{Kept}
-use Rattle.descents.specs.declared.far.Went.TheVariants.{Gone}
 use Rattle.walks.specs.Rule.{lowest_by, child_by, walked_from, walked}
 use Rattle.walks.specs.Stands.{stand_at, down_along, reached_at}
-use Rattle.descents.specs.Far.{zeros_up_to, zero_bits, PassedFrom, OwnSums, Ready, HasZero, ZeroWord, stand_near, went_on}
+use Rattle.descents.specs.Far.{zeros_up_to, zero_bits, PassedFrom, OwnSums, Found, Ready, HasZero, stand_near, went_on}
 use Rattle.walks.proofs.Laws.Stands.{zero-near, along-rule}
 use Rattle.walks.proofs.Laws.Rule.{child_by-run}
 
@@ -58,17 +57,8 @@ pub record ZeroAt (ws : List ℕ) (k p : ℕ) : Type 0 where
   pub before : zeros_before (bit ws) p ≡ k
   pub there : gap (bit ws) p ≡ 1
 
--- the words from `first` on are passed up to word w, of which the last has these sums
-pub record Passing (ws : List ℕ) (whole first k w left sums : ℕ) : Type 0 where
-  pub sum : zeros_up_to ws first + k + sums / 2 ^ 56 ≡ zeros_up_to ws w + left
-  pub some : 0 < k → 0 < left
-  pub own : 0 < sums / 2 ^ 56 → (0 < w) × (w ≤ whole) × (sums ≡ byte_ranks (zero_bits ws (w - 1)))
-
 pub nothing-passed : (ws : List ℕ) (first k : ℕ) → PassedFrom ws first k (record { words = first; left = k })
 nothing-passed ws first k = record { sum = refl; some = λ h. h }
-
-pub passing-start : (ws : List ℕ) (whole first k : ℕ) → Passing ws whole first k first k 0
-passing-start ws whole first k = record { sum = omega arith; some = λ h. h; own = λ h. absurd (omega (arith, h)) }
 
 module _ (ws : List ℕ) (wide : (i : ℕ) → get_or ws i 0 < 2 ^ word_bits) where
   abbrev b : ℕ → ℕ
@@ -145,8 +135,8 @@ module _ (ws : List ℕ) (wide : (i : ℕ) → get_or ws i 0 < 2 ^ word_bits) wh
           let flat = ones-flat (zero_bits ws w) word_bits (suc t.place) t.inside (λ i l u. above-end (zero_bits ws w) (suc t.place) i (sym left_over ∙ gone) l) in
           omega (arith, word_next w, flat, ap ones (mod-eq_of_lt (word_wide w)), upto)
 
-      pub next-beyond : (k v : ℕ) → zeros_up_to ws w + j ≡ k → more ≡ 0 → HasZero ws (w + 1) v → ZeroAt ws k (v * word_bits + count_trailing_zeros word_bits (zero_bits ws v)) × (count_trailing_zeros word_bits (zero_bits ws v) < word_bits)
-      next-beyond k v sum gone h =
+      pub next-beyond : (whole k v : ℕ) → zeros_up_to ws w + j ≡ k → more ≡ 0 → HasZero ws whole (w + 1) v → ZeroAt ws k (v * word_bits + count_trailing_zeros word_bits (zero_bits ws v)) × (count_trailing_zeros word_bits (zero_bits ws v) < word_bits)
+      next-beyond whole k v sum gone h =
           let x : ℕ = zero_bits ws v in
           let u = turn x 0 x (above-all x) h.some (word_wide v) in
           let at : v * word_bits + u.place ≡ v * word_bits + count_trailing_zeros word_bits x = ap (λ (y : ℕ). v * word_bits + y) (sym u.is-lowest) in (
@@ -186,114 +176,105 @@ module _ (ws : List ℕ) (wide : (i : ℕ) → get_or ws i 0 < 2 ^ word_bits) wh
 
   -- ---- passing
 
-  pub four-passed : (first k w left ones-there zeros : ℕ) → PassedFrom ws first k (record { words = w; left = left })
-      → ones-there ≡ ones (get_or ws w 0) + ones (get_or ws (w + 1) 0) + ones (get_or ws (w + 2) 0) + ones (get_or ws (w + 3) 0) → zeros ≡ 256 - ones-there → ones-there ≤ 256 → zeros < left
-      → PassedFrom ws first k (record { words = w + 4; left = left - zeros })
-  four-passed first k w left there zeros p is less few l = record {
-    sum = omega (arith, p.sum, four-next w, is, less, few, l);
+  pub four-passed : (first k w left ones-there : ℕ) → PassedFrom ws first k (record { words = w; left = left })
+      → ones-there ≡ ones (get_or ws w 0) + ones (get_or ws (w + 1) 0) + ones (get_or ws (w + 2) 0) + ones (get_or ws (w + 3) 0) → ones-there ≤ 256 → 256 - ones-there < left
+      → PassedFrom ws first k (record { words = w + 4; left = left - (256 - ones-there) })
+  four-passed first k w left there p is few l = record {
+    sum = omega (arith, p.sum, four-next w, is, few, l);
     some = λ h. omega (arith, l);
   }
 
-  pub passing-next : (whole first k w left sums next : ℕ) → Passing ws whole first k w left sums → sums / 2 ^ 56 < left → w < whole → next ≡ byte_ranks (zero_bits ws w)
-      → Passing ws whole first k (w + 1) (left - sums / 2 ^ 56) next
-  passing-next whole first k w left sums next p few inside is =
-      let same : zero_bits ws (w + 1 - 1) ≡ zero_bits ws w = ap (zero_bits ws) (omega arith) in
-      record {
-        sum = omega (arith, p.sum, all-zeros w next is, word_next w, few);
-        some = λ h. omega (arith, few);
-        own = λ h. (omega arith, omega (arith, inside), is ∙ ap byte_ranks (sym same));
-      }
+  -- a word with fewer zeros than are left is passed, and another has the zero
+  module _ (whole first k w left sums zeros : ℕ) (p : PassedFrom ws first k (record { words = w; left = left })) (is : sums ≡ byte_ranks (zero_bits ws w)) (all : zeros ≡ sums / 2 ^ 56) where
+    pub one-passed : zeros < left → PassedFrom ws first k (record { words = w + 1; left = left - zeros })
+    one-passed l = record { sum = omega (arith, p.sum, all, all-zeros w sums is, word_next w, l); some = λ h. omega (arith, l) }
 
-  pub passing-found : (whole first k w left sums : ℕ) → Passing ws whole first k w left sums → left ≤ sums / 2 ^ 56
-      → Ready ws whole first k (record { words = w; left = left; zeros = sums / 2 ^ 56; sums = sums })
-  passing-found whole first k w left sums p enough h there =
-      let left-some = p.some h in
-      let o = p.own (omega (arith, left-some, enough)) in
-      let count = all-zeros (w - 1) sums o.2 in
-      let up : zeros_up_to ws (w - 1 + 1) ≡ zeros_up_to ws w = ap (zeros_up_to ws) (omega (arith, there)) in
-      record {
-        inside = o.1;
-        sum = omega (arith, p.sum, up, word_next (w - 1), count);
-        some = left-some;
-        enough = enough;
-        own = record { all = count; by_byte = o.2 };
-      }
+    pub one-found : w < whole → left ≤ zeros → Ready ws whole first k (Some (record { words = w + 1; left = left; zeros = zeros; sums = sums }))
+    one-found inside enough h =
+        let same : zero_bits ws w ≡ zero_bits ws (w + 1 - 1) = ap (zero_bits ws) (omega arith) in
+        let up : zeros_up_to ws w ≡ zeros_up_to ws (w + 1 - 1) = ap (zeros_up_to ws) (omega arith) in
+        record {
+          kept = omega arith;
+          inside = omega (arith, inside);
+          sum = omega (arith, p.sum, up);
+          some = p.some h;
+          enough = enough;
+          own = record { all = all ∙ all-zeros w sums is ∙ ap ones same; by_byte = is ∙ ap byte_ranks same };
+        }
 
-pub ready-through : (ws : List ℕ) (whole first k : ℕ) (p : Passed) (r : Kept) → PassedFrom ws first k p → Ready ws whole p.words p.left r → Ready ws whole first k r
-ready-through ws whole first k p r f g h there =
-    let o = g (f.some h) there in
-    record { inside = o.inside; sum = f.sum ∙ o.sum; some = o.some; enough = o.enough; own = o.own }
+pub ready-through : (ws : List ℕ) (whole first k : ℕ) (p : Passed) (r : Option Kept) → PassedFrom ws first k p → Ready ws whole p.words p.left r → Ready ws whole first k r
+ready-through ws whole first k p None f g h = tt
+ready-through ws whole first k p (Some r) f g h =
+    let o = g (f.some h) in
+    record { kept = o.kept; inside = o.inside; sum = f.sum ∙ o.sum; some = o.some; enough = o.enough; own = o.own }
 
 -- ---- a walk by whole words
 
--- the word kept is the w-th, or none is: `left` of the zeros from its start on, or from bit 0 on, reach the node's
-pub record Keeping (ws : List ℕ) (whole node w left zeros sums : ℕ) : Type 0 where
-  pub sum : zeros_up_to ws (w - 1) + left ≡ node
-  pub some : 0 < left
-  pub start : w ≡ 0 → zeros ≡ 0
-  pub own : 0 < w → (w ≤ whole) × OwnSums ws (w - 1) zeros sums
+-- the word kept is the last of k.words, or none is: k.left of the zeros from its start on, or from bit 0 on, reach the node's
+pub record Keeping (ws : List ℕ) (whole node : ℕ) (k : Kept) : Type 0 where
+  pub sum : zeros_up_to ws (k.words - 1) + k.left ≡ node
+  pub some : 0 < k.left
+  pub start : k.words ≡ 0 → k.zeros ≡ 0
+  pub own : 0 < k.words → (k.words ≤ whole) × OwnSums ws (k.words - 1) k.zeros k.sums
 
 -- and it has the node's zero
-pub record Settled (ws : List ℕ) (whole node w left zeros sums : ℕ) : Type 0 where
-  pub kept : 0 < w
-  pub inside : w ≤ whole
-  pub sum : zeros_up_to ws (w - 1) + left ≡ node
-  pub some : 0 < left
-  pub enough : left ≤ zeros
-  pub own : OwnSums ws (w - 1) zeros sums
+pub record Settled (ws : List ℕ) (whole node : ℕ) (k : Kept) : Type 0 where
+  pub kept : 0 < k.words
+  pub inside : k.words ≤ whole
+  pub sum : zeros_up_to ws (k.words - 1) + k.left ≡ node
+  pub some : 0 < k.left
+  pub enough : k.left ≤ k.zeros
+  pub own : OwnSums ws (k.words - 1) k.zeros k.sums
 
-pub keeping_start : (ws : List ℕ) (whole : ℕ) → Keeping ws whole 1 0 1 0 0
+pub keeping_start : (ws : List ℕ) (whole : ℕ) → Keeping ws whole 1 (record { words = 0; left = 1; zeros = 0; sums = 0 })
 keeping_start ws whole = record { sum = ap (λ (x : ℕ). x + 1) (sum_below-zero (gap (bit ws))); some = omega arith; start = λ e. refl; own = λ h. absurd (omega (arith, h)) }
 
-pub keeping-next : (ws : List ℕ) (whole node w left zeros sums m : ℕ) → Settled ws whole node w left zeros sums → node ≤ m → Keeping ws whole m w (left + (m - node)) zeros sums
-keeping-next ws whole node w left zeros sums m s l =
+pub keeping-next : (ws : List ℕ) (whole node m : ℕ) (k : Kept) → Settled ws whole node k → node ≤ m → Keeping ws whole m (record { words = k.words; left = k.left + (m - node); zeros = k.zeros; sums = k.sums })
+keeping-next ws whole node m k s l =
     record { sum = omega (arith, s.sum, l); some = omega (arith, s.some); start = λ e. absurd (omega (arith, e, s.kept)); own = λ h. (s.inside, s.own) }
 
-pub settled-keeping : (ws : List ℕ) (whole node w left zeros sums : ℕ) → Settled ws whole node w left zeros sums → Keeping ws whole node w left zeros sums
-settled-keeping ws whole node w left zeros sums s = record { sum = s.sum; some = s.some; start = λ e. absurd (omega (arith, e, s.kept)); own = λ h. (s.inside, s.own) }
+pub settled-keeping : (ws : List ℕ) (whole node : ℕ) (k : Kept) → Settled ws whole node k → Keeping ws whole node k
+settled-keeping ws whole node k s = record { sum = s.sum; some = s.some; start = λ e. absurd (omega (arith, e, s.kept)); own = λ h. (s.inside, s.own) }
 
 -- the stand at the node, from there on
-pub keeping-stand : (ws : List ℕ) (whole node w left zeros sums len : ℕ) → Keeping ws whole node w left zeros sums → stand_near (bit ws) len node w left ≡ stand_at (bit ws) len node
-keeping-stand ws whole node w left zeros sums len k =
-    let z : zero_from (bit ws) len ((w - 1) * word_bits) left ≡ zero_at (bit ws) len node = zero-near (bit ws) len ((w - 1) * word_bits) left node k.some k.sum in
+pub keeping-stand : (ws : List ℕ) (whole node len : ℕ) (k : Kept) → Keeping ws whole node k → stand_near (bit ws) len node k.words k.left ≡ stand_at (bit ws) len node
+keeping-stand ws whole node len k h =
+    let z : zero_from (bit ws) len ((k.words - 1) * word_bits) k.left ≡ zero_at (bit ws) len node = zero-near (bit ws) len ((k.words - 1) * word_bits) k.left node h.some h.sum in
     λ x. record { node = node; zero = unwrap_or (z x) len }
 
-module _ (ws : List ℕ) (wide : (i : ℕ) → get_or ws i 0 < 2 ^ word_bits) (whole node w left zeros sums : ℕ) where
+module _ (ws : List ℕ) (wide : (i : ℕ) → get_or ws i 0 < 2 ^ word_bits) (whole node : ℕ) (k : Kept) where
   -- the zeros before the next word
-  zeros-passed : Keeping ws whole node w left zeros sums → zeros_up_to ws w + left ≡ node + zeros
-  zeros-passed k = at (dec_le 1 w)
+  zeros-passed : Keeping ws whole node k → zeros_up_to ws k.words + k.left ≡ node + k.zeros
+  zeros-passed h = at (dec_le 1 k.words)
     where
-      at : Dec (1 ≤ w) → zeros_up_to ws w + left ≡ node + zeros
-      at (yes h) =
-          let up : zeros_up_to ws (w - 1 + 1) ≡ zeros_up_to ws w = ap (zeros_up_to ws) (omega (arith, h)) in
-          omega (arith, up, word_next ws wide (w - 1), k.sum, (k.own h).1.all)
-      at (no h) =
-          let none_kept : w ≡ 0 = omega arith in
-          let same : zeros_up_to ws (w - 1) ≡ zeros_up_to ws w = ap (zeros_up_to ws) (omega arith) in
-          omega (arith, same, k.sum, k.start none_kept)
+      at : Dec (1 ≤ k.words) → zeros_up_to ws k.words + k.left ≡ node + k.zeros
+      at (yes l) =
+          let up : zeros_up_to ws (k.words - 1 + 1) ≡ zeros_up_to ws k.words = ap (zeros_up_to ws) (omega (arith, l)) in
+          omega (arith, up, word_next ws wide (k.words - 1), h.sum, (h.own l).1.all)
+      at (no l) =
+          let none_kept : k.words ≡ 0 = omega arith in
+          let same : zeros_up_to ws (k.words - 1) ≡ zeros_up_to ws k.words = ap (zeros_up_to ws) (omega arith) in
+          omega (arith, same, h.sum, h.start none_kept)
 
-  pub settled-found : (r : Kept) → Keeping ws whole node w left zeros sums → zeros < left → Ready ws whole w (left - zeros) r → (r.words ≡ 0 → ⊥)
-      → Settled ws whole node r.words r.left r.zeros r.sums
-  settled-found r k l f there =
-      let o = f (omega (arith, l)) (omega (arith, there)) in
-      record { kept = omega (arith, there); inside = o.inside; sum = omega (arith, o.sum, zeros-passed k, l); some = o.some; enough = o.enough; own = o.own }
+  pub settled-found : (r : Kept) → Keeping ws whole node k → k.zeros < k.left → Found ws whole k.words (k.left - k.zeros) r → Settled ws whole node r
+  settled-found r h l o = record { kept = o.kept; inside = o.inside; sum = omega (arith, o.sum, zeros-passed h, l); some = o.some; enough = o.enough; own = o.own }
 
-  pub settled-kept : Keeping ws whole node w left zeros sums → left ≤ zeros → Settled ws whole node w left zeros sums
-  settled-kept k l = at (dec_le 1 w)
+  pub settled-kept : Keeping ws whole node k → k.left ≤ k.zeros → Settled ws whole node k
+  settled-kept h l = at (dec_le 1 k.words)
     where
-      at : Dec (1 ≤ w) → Settled ws whole node w left zeros sums
-      at (yes h) = let o = k.own h in record { kept = h; inside = o.0; sum = k.sum; some = k.some; enough = l; own = o.1 }
-      at (no h) = let none_kept : w ≡ 0 = omega arith in absurd (omega (arith, k.some, l, k.start none_kept))
+      at : Dec (1 ≤ k.words) → Settled ws whole node k
+      at (yes m) = let o = h.own m in record { kept = m; inside = o.0; sum = h.sum; some = h.some; enough = l; own = o.1 }
+      at (no m) = let none_kept : k.words ≡ 0 = omega arith in absurd (omega (arith, h.some, l, h.start none_kept))
 
-  module _ (s : Settled ws whole node w left zeros sums) (rest : ℕ) (is : rest ≡ ones_from (zero_bits ws (w - 1)) sums left) where
-    pub own-taken : Taken (zero_bits ws (w - 1)) left rest
+  module _ (s : Settled ws whole node k) (rest : ℕ) (is : rest ≡ ones_from (zero_bits ws (k.words - 1)) k.sums k.left) where
+    pub own-taken : Taken (zero_bits ws (k.words - 1)) k.left rest
     own-taken =
-        subst (Taken (zero_bits ws (w - 1)) left) (sym is)
-        (taken (zero_bits ws (w - 1)) left sums (word_wide ws wide (w - 1)) s.some (omega (arith, s.enough, s.own.all)) s.own.by_byte)
+        subst (Taken (zero_bits ws (k.words - 1)) k.left) (sym is)
+        (taken (zero_bits ws (k.words - 1)) k.left k.sums (word_wide ws wide (k.words - 1)) s.some (omega (arith, s.enough, s.own.all)) s.own.by_byte)
 
     -- where the node's zero is
     abbrev pub zero-place : ℕ
-    zero-place = (w - 1) * word_bits + own-taken.place
+    zero-place = (k.words - 1) * word_bits + own-taken.place
 
     pub record Stood : Type 0 where
       pub lowest : count_trailing_zeros word_bits rest ≡ own-taken.place
@@ -302,11 +283,11 @@ module _ (ws : List ℕ) (wide : (i : ℕ) → get_or ws i 0 < 2 ^ word_bits) (w
       pub zero : ZeroAt ws (node - 1) zero-place
       pub one : 1 ≤ node
       pub few : node ≤ zero-place + 1
-      pub upto : node ≤ w * word_bits
+      pub upto : node ≤ k.words * word_bits
 
     pub stood : Stood
     stood =
-        let z = zero_in ws wide (w - 1) left rest own-taken (node - 1) (omega (arith, s.sum, s.some)) in
+        let z = zero_in ws wide (k.words - 1) k.left rest own-taken (node - 1) (omega (arith, s.sum, s.some)) in
         let few-zeros : zeros_before (bit ws) zero-place ≤ zero-place = omega (arith, ones-zeros (bit ws) (bit-small ws) zero-place) in
         record {
           lowest = own-taken.lowest;
@@ -330,13 +311,13 @@ module _ (ws : List ℕ) (wide : (i : ℕ) → get_or ws i 0 < 2 ^ word_bits) (w
     at_most n z = omega (arith, z.before, ones-zeros (bit ws) (bit-small ws) n)
 
     module _ (more : ℕ) (left-of : more ≡ bit_and rest (rest - 1)) where
-      pub ahead_in : (more ≡ 0 → ⊥) → NextAt (w * word_bits - node + count_trailing_zeros word_bits more - 64) × (count_trailing_zeros word_bits more < word_bits) × (node ≤ (w - 1) * word_bits + count_trailing_zeros word_bits more)
+      pub ahead_in : (more ≡ 0 → ⊥) → NextAt (k.words * word_bits - node + count_trailing_zeros word_bits more - 64) × (count_trailing_zeros word_bits more < word_bits) × (node ≤ (k.words - 1) * word_bits + count_trailing_zeros word_bits more)
       ahead_in much =
-          let z = next-in ws wide (w - 1) left rest own-taken more left-of node s.sum much in
+          let z = next-in ws wide (k.words - 1) k.left rest own-taken more left-of node s.sum much in
           let u : ℕ = count_trailing_zeros word_bits more in
-          let least = at_most ((w - 1) * word_bits + u) z.0 in (
+          let least = at_most ((k.words - 1) * word_bits + u) z.0 in (
             record {
-              place = (w - 1) * word_bits + u;
+              place = (k.words - 1) * word_bits + u;
               zero = z.0;
               inside = omega (arith, z.2, s.inside, s.kept);
               few = least;
@@ -346,13 +327,13 @@ module _ (ws : List ℕ) (wide : (i : ℕ) → get_or ws i 0 < 2 ^ word_bits) (w
             least,
           )
 
-      pub ahead-beyond : (v : ℕ) → more ≡ 0 → v < whole → ZeroWord ws whole w v → NextAt (v * word_bits + count_trailing_zeros word_bits (zero_bits ws v) - node) × (count_trailing_zeros word_bits (zero_bits ws v) < word_bits) × (node ≤ v * word_bits + count_trailing_zeros word_bits (zero_bits ws v))
-      ahead-beyond v gone l f =
-          let same : w - 1 + 1 ≡ w = omega (arith, s.kept) in
-          let z = next-beyond ws wide (w - 1) left rest own-taken more left-of node v s.sum gone (subst (λ (x : ℕ). HasZero ws x v) (sym same) (f l)) in
+      pub ahead-beyond : (v : ℕ) → more ≡ 0 → HasZero ws whole k.words v → NextAt (v * word_bits + count_trailing_zeros word_bits (zero_bits ws v) - node) × (count_trailing_zeros word_bits (zero_bits ws v) < word_bits) × (node ≤ v * word_bits + count_trailing_zeros word_bits (zero_bits ws v))
+      ahead-beyond v gone f =
+          let same : k.words - 1 + 1 ≡ k.words = omega (arith, s.kept) in
+          let z = next-beyond ws wide (k.words - 1) k.left rest own-taken more left-of whole node v s.sum gone (subst (λ (x : ℕ). HasZero ws whole x v) (sym same) f) in
           let u : ℕ = count_trailing_zeros word_bits (zero_bits ws v) in
           let least = at_most (v * word_bits + u) z.0 in
-          (record { place = v * word_bits + u; zero = z.0; inside = omega (arith, z.1, l); few = least; ones = refl }, z.1, least)
+          (record { place = v * word_bits + u; zero = z.0; inside = omega (arith, z.1, f.inside); few = least; ones = refl }, z.1, least)
 
     -- the child, by both
     pub child-rule-far : (ls : List ℕ) (len a from to : ℕ) → whole * word_bits ≤ len → from ≡ zero-place + 1 - node → NextAt to
@@ -365,20 +346,13 @@ module _ (ws : List ℕ) (wide : (i : ℕ) → get_or ws i 0 < 2 ^ word_bits) (w
         (level-rule ws wide ls len (node - 1) zero-place n.place a stood.zero next behind (omega (arith, n.inside, inside)))
         ∙ ap₂ (λ (x y : ℕ). lowest_by ls node (x - y) (y + 1) a) (sym n.ones) (sym begins)
 
-pub settled_same : (ws : List ℕ) (whole node w left zeros sums w' left' zeros' sums' : ℕ) → w ≡ w' → left ≡ left' → zeros ≡ zeros' → sums ≡ sums' → Settled ws whole node w' left' zeros' sums'
-    → Settled ws whole node w left zeros sums
-settled_same ws whole node w left zeros sums w' left' zeros' sums' a b c d s =
-    subst (λ (x : ℕ). Settled ws whole node x left zeros sums) (sym a)
-    (subst (λ (x : ℕ). Settled ws whole node w' x zeros sums) (sym b)
-    (subst (λ (x : ℕ). Settled ws whole node w' left' x sums) (sym c) (subst (λ (x : ℕ). Settled ws whole node w' left' zeros' x) (sym d) s)))
-
 pub zeros-most : (ws : List ℕ) (w : ℕ) → ((i : ℕ) → get_or ws i 0 < 2 ^ word_bits) → ones (zero_bits ws w) ≤ 64
 zeros-most ws w wide = ones-le word_bits (zero_bits ws w) (word_wide ws wide w)
 
 -- a walk that went so far ends where the rule does
 pub gone-rule : (ls ws : List ℕ) (len : ℕ) (q : Key) (node steps kept left : ℕ) → walked ls (bit ws) len q ≡ walked_from ls (bit ws) len (drop steps q) (Some node)
     → stand_near (bit ws) len node kept left ≡ stand_at (bit ws) len node
-    → went_on ls (bit ws) len q (Gone node steps kept left) ≡ reached_at (bit ws) len (walked ls (bit ws) len q)
+    → went_on ls (bit ws) len q (Some (record { node = node; steps = steps; kept = kept; left = left })) ≡ reached_at (bit ws) len (walked ls (bit ws) len q)
 gone-rule ls ws len q node steps kept left walk stand =
     ap (λ (s : Stand). down_along ls (bit ws) len (drop steps q) (Some s)) stand
     ∙ along-rule (bit ws) (bit-small ws) len ls (drop steps q) (Some node)

@@ -30,7 +30,6 @@ use Rattle.keymap.proofs.Laws.Sums.{sum_below-zero, sum_below-suc, sum_below-lt,
 use Rattle.keymap.proofs.Laws.Bits.{bit-small, bit-either, length-unpack, get_or-unpack, unpack-small, pack-unpack}
 use Rattle.keymap.proofs.Laws.Degrees.{sequence-unary, unary-degrees_from, length-sequence}
 use Rattle.keymap.proofs.Laws.Shape.{Shape, shape-image, shape-map, shape-few, shape-catalogue, map-shape}
-use Rattle.louds.specs.Nodes.{Run}
 use Rattle.louds.specs.Rank.{ones_before, zeros_before}
 use Rattle.louds.proofs.Laws.Rank.{ones-zeros, zeros-ext}
 use Rattle.louds.proofs.Laws.Select.{kth-rank}

@@ -16,11 +16,11 @@ use lib.Dec.{eqb}
 use Rattle.keymap.specs.Refusals.{refuses}
 use Rattle.keymap.specs.declared.refusals.Refusal.{Refusal}
 use Rattle.keymap.specs.Image.{Image}
-use Rattle.std.specs.Prelude.{Result}
+use Rattle.std.specs.Prelude.{Result, Ok, Err}
 use Rattle.keymap.proofs.Laws.Answers.{said-one}
 use Rattle.image.specs.Accept.{OfMap, LentSlices}
 use Rattle.image.specs.AcceptTest.{image_test}
-use Rattle.image.specs.AcceptAnswer.{said_checked, accept_says}
+use Rattle.image.specs.AcceptAnswer.{accepted_if, said_checked, accept_says}
 use Rattle.image.proofs.Laws.Accept.{accepted-iff}
 use Rattle.image.proofs.Laws.Passed.{image_test-iff}
 
@@ -64,3 +64,12 @@ said-means-map i l r e = (λ h. (accept-means-map i l).0 (sym e ∙ h), λ m. e 
 
 pub said-checked-one : (r s : Result (Unit {0}) Refusal) → said_checked r ≡ said_checked s → r ≡ s
 said-checked-one = said-one (λ u. []) (λ x y e. refl)
+
+-- the test by the answer
+pub accepted-ok : (t : Bool) (u : Unit {0}) → accepted_if t ≡ Ok u → t ≡ true
+accepted-ok true u e = refl
+accepted-ok false u e = let z : ◌≡◌ {A = ℕ} 0 1 = cc in absurd (omega arith)
+
+pub accepted-err : (t : Bool) (r : Refusal) → accepted_if t ≡ Err r → (t ≡ false) × (r ≡ Refusal.NotAnImage)
+accepted-err false r e = (refl, let z : Refusal.NotAnImage ≡ r = cc in sym z)
+accepted-err true r e = let z : ◌≡◌ {A = ℕ} 0 1 = cc in absurd (omega arith)

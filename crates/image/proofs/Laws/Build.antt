@@ -1,8 +1,7 @@
 -- Laws of build: which buffers fit, what it says in each case, and what it then leaves: a refusal leaves every buffer as it was.
 --
---     fit-labels, ..                         the case that each test of the lengths settles
 --     fit_all                                what fitting buffers are
---     says-small, ..                         what build says in each case
+--     says-refused, ..                       what build says in each case
 --     build-refused                          a refusal leaves all four
 --     build-done                             what else is left of them
 --     says-sound                             what build says of a sound pool, by the lengths alone
@@ -15,18 +14,19 @@ use mathlib.Core.Bool.{Bool, true, false, cond, ◌&&◌}
 use mathlib.Core.List.{List, [], ◌∷◌, map}
 use native.Mathlib.Omega.{arith}
 use lib.ListN.{length, get_or, take}
-use lib.Dec.{leb, eqb}
-use borrow.Author.Tests.{le-leb, lt-leb, leb-true, le-ltb, lt-ltb}
+use lib.Dec.{leb, ltb}
+use borrow.Author.Tests.{leb-true, le-ltb}
 use Rattle.keymap.specs.Refusals.{refuses}
 use Rattle.keymap.specs.declared.refusals.Refusal.{Refusal}
 use Rattle.keymap.specs.Bits.{words_for}
 use Rattle.keymap.specs.Image.{bits_for}
 use Rattle.records.specs.Words.{Pool, record_words, entry, value, used_count}
 use Rattle.records.specs.Sound.{Sound}
-use Rattle.records.specs.SoundTest.{sound_test}
+use Rattle.records.specs.SoundTest.{sound_test, check_sound}
 use Rattle.records.proofs.Laws.SoundTest.{sound-test}
-use Rattle.pool.specs.Answers.{accepted}
-use Rattle.image.specs.declared.answers.Built.{Built}
+use Rattle.pool.specs.Answers.{said_counted, accepted}
+use Rattle.pool.proofs.Laws.Answers.{said-counted-one}
+use Rattle.std.specs.Prelude.{Result, Ok, Err}
 use Rattle.keymap.specs.Buffers.{over}
 use Rattle.image.specs.LevelOrder.{level_records, pool_labels, pool_values, pool_words}
 use Rattle.image.specs.Build.{said_built, buffers_fit, fit_says, build_says, build_labels, build_values, build_words, build_scratch, CanTell}
@@ -34,22 +34,6 @@ use Rattle.keymap.proofs.Laws.Buffers.{length_over, get_d_over, take-over}
 use Rattle.image.proofs.Laws.LevelOrder.{level-count, level-used, get_or-in}
 
 module _ (n labels values words scratch : ℕ) where
-  pub fit-labels : labels < n → false ≡ buffers_fit n labels values words scratch
-  unfolding buffers_fit
-  fit-labels h = simp (lt-leb _ _ h)
-
-  pub fit-values : n ≤ labels → values < n → false ≡ buffers_fit n labels values words scratch
-  unfolding buffers_fit
-  fit-values a h = simp (le-leb _ _ a, lt-leb _ _ h)
-
-  pub fit_words : n ≤ labels → n ≤ values → words < words_for (bits_for n) → false ≡ buffers_fit n labels values words scratch
-  unfolding buffers_fit
-  fit_words a b h = simp (le-leb _ _ a, le-leb _ _ b, lt-leb _ _ h)
-
-  pub fit-scratch : n ≤ labels → n ≤ values → words_for (bits_for n) ≤ words → leb n scratch ≡ buffers_fit n labels values words scratch
-  unfolding buffers_fit
-  fit-scratch a b c = simp (le-leb _ _ a, le-leb _ _ b, le-leb _ _ c)
-
   pub fit_all : buffers_fit n labels values words scratch ≡ true → (n ≤ labels) × (n ≤ values) × (words_for (bits_for n) ≤ words) × (n ≤ scratch)
   unfolding buffers_fit
   fit_all e =
@@ -69,13 +53,15 @@ left-written : {t : Bool} (xs ys : List ℕ) → t ≡ true → xs ≡ cond t xs
 left-written xs ys e = ap (λ (b : Bool). cond b xs ys) (sym e)
 
 module _ (p : Pool) (ls vs ws qs : List ℕ) where
-  pub says-small : length p < record_words → refuses Refusal.PoolTooSmall ≡ build_says p ls vs ws qs
-  unfolding build_says
-  says-small h = simp (lt-ltb _ _ h)
-
-  pub says-unsound : record_words ≤ length p → sound_test p ≡ false → refuses Refusal.NotAPool ≡ build_says p ls vs ws qs
-  unfolding build_says
-  says-unsound h e = simp (le-ltb _ _ h, e)
+  pub says-refused : (r : Refusal) → check_sound p ≡ Err r → refuses r ≡ build_says p ls vs ws qs
+  unfolding check_sound build_says
+  says-refused r e = go (ltb (length p) record_words) (sound_test p) e
+    where
+      go : (t u : Bool) → cond t (Err Refusal.PoolTooSmall) (cond u (Ok (tt {0})) (Err Refusal.NotAPool)) ≡ Err r
+          → refuses r ≡ cond t (refuses Refusal.PoolTooSmall) (cond u (fit_says (used_count p) (length ls) (length vs) (length ws) (length qs)) (refuses Refusal.NotAPool))
+      go true u q = let k : Refusal.PoolTooSmall ≡ r = cc in ap refuses (sym k)
+      go false true q = absurd (cc)
+      go false false q = let k : Refusal.NotAPool ≡ r = cc in ap refuses (sym k)
 
   -- n is the count of the records in use
   module _ (n : ℕ) (count : n ≡ used_count p) (long : record_words ≤ length p) (sound : sound_test p ≡ true) where
@@ -88,18 +74,18 @@ module _ (p : Pool) (ls vs ws qs : List ℕ) where
     says-done f = simp (le-ltb _ _ long, sound, ← count, f)
 
   -- an answer with what it leaves of the buffers
-  abbrev Leaves : Built → (labels values words scratch : List ℕ) → Type 0
+  abbrev Leaves : Result ℕ Refusal → (labels values words scratch : List ℕ) → Type 0
   Leaves r labels values words scratch =
       (said_built r ≡ build_says p ls vs ws qs)
       × ((labels ≡ build_labels p ls vs ws qs) × ((values ≡ build_values p ls vs ws qs) × ((words ≡ build_words p ls vs ws qs) × (scratch ≡ build_scratch p ls vs ws qs))))
 
-  pub build-refused : (r : Built) → said_built r ≡ build_says p ls vs ws qs → accepted (said_built r) ≡ false → Leaves r ls vs ws qs
+  pub build-refused : (r : Result ℕ Refusal) → said_built r ≡ build_says p ls vs ws qs → accepted (said_built r) ≡ false → Leaves r ls vs ws qs
   unfolding build_labels build_values build_words build_scratch
   build-refused r e f =
       let a : accepted (build_says p ls vs ws qs) ≡ false = ap accepted (sym e) ∙ f in
       (e, (left-as-was (over (pool_labels p) ls) ls a, (left-as-was (over (pool_values p) vs) vs a, (left-as-was (over (pool_words p) ws) ws a, left-as-was (over (level_records p) qs) qs a))))
 
-  pub build-done : (r : Built) → said_built r ≡ build_says p ls vs ws qs → accepted (said_built r) ≡ true → Leaves r (over (pool_labels p) ls) (over (pool_values p) vs) (over (pool_words p) ws) (over (level_records p) qs)
+  pub build-done : (r : Result ℕ Refusal) → said_built r ≡ build_says p ls vs ws qs → accepted (said_built r) ≡ true → Leaves r (over (pool_labels p) ls) (over (pool_values p) vs) (over (pool_words p) ws) (over (level_records p) qs)
   unfolding build_labels build_values build_words build_scratch
   build-done r e f =
       let a : accepted (build_says p ls vs ws qs) ≡ true = ap accepted (sym e) ∙ f in
@@ -138,17 +124,9 @@ module _ (p : Pool) (s : Sound p) (n : ℕ) (count : n ≡ used_count p) (queue 
 
 -- ---- the answer
 
-heard_built : List ℕ → Built
-heard_built [] = Built.OutTooSmall
-heard_built (k ∷ []) = cond (eqb k 1) Built.PoolTooSmall (cond (eqb k 2) Built.NotAPool Built.OutTooSmall)
-heard_built (k ∷ n ∷ ns) = Built.Nodes n
+built-is : (r : Result ℕ Refusal) → said_counted r ≡ said_built r
+built-is (Ok n) = refl
+built-is (Err r) = refl
 
-built-heard : (r : Built) → heard_built (said_built r) ≡ r
-unfolding heard_built
-built-heard (Built.Nodes n) = refl
-built-heard Built.PoolTooSmall = refl
-built-heard Built.NotAPool = refl
-built-heard Built.OutTooSmall = refl
-
-pub said-built-one : (r s : Built) → said_built r ≡ said_built s → r ≡ s
-said-built-one r s e = sym (built-heard r) ∙ ap heard_built e ∙ built-heard s
+pub said-built-one : (r s : Result ℕ Refusal) → said_built r ≡ said_built s → r ≡ s
+said-built-one r s e = said-counted-one r s (built-is r ∙ e ∙ sym (built-is s))

@@ -3,11 +3,12 @@
 --     written-fits     it is written
 --     written-short    the buffer is shorter, and stays
 --     said-one         what is said gives the answer back, if what it tells does
---     value-one        a value found is told by its number
+--     value-one        a value found is told by its number, and `flag-one`: yes by a 1
 -- Assumes nothing.
 use Rattle.std.specs.Prelude.{Option, None, Some, Result, Ok, Err}
 use mathlib.Core.Path.{◌≡◌, refl, sym, ap}
 use mathlib.Core.List.{head-eq_of_cons-eq, tail-eq_of_cons-eq, nil≢cons, cons-ne-nil}
+use mathlib.Core.Bool.{Bool, true, false}
 use Prim.Native.Nat.{ℕ, ◌≤◌, ◌<◌}
 use mathlib.Core.List.{List, [], ◌∷◌, ◌++◌}
 use lib.ListN.{length, drop}
@@ -17,7 +18,7 @@ use Rattle.keymap.specs.Buffers.{over}
 use Rattle.keymap.specs.Refusals.{refuses}
 use Rattle.keymap.specs.declared.refusals.Refusal.TheVariants.{KeyRoom}
 use Rattle.keymap.specs.declared.refusals.Refusal.{Refusal}
-use Rattle.keymap.specs.Answers.{said, told_value, says_written, written_to}
+use Rattle.keymap.specs.Answers.{said, told_value, told_flag, says_written, written_to}
 use Rattle.keymap.proofs.Laws.Refusals.{refusal-one, no_zero}
 
 pub record KeyWritten (k : Key) (out : List ℕ) (says : List ℕ) (after : List ℕ) : Type 0 where
@@ -44,3 +45,9 @@ value-one None None e = refl
 value-one (Some v) (Some w) e = ap Some (head-eq_of_cons-eq e)
 value-one None (Some w) e = absurd (nil≢cons e)
 value-one (Some v) None e = absurd (cons-ne-nil v [] e)
+
+pub flag-one : (x y : Bool) → told_flag x ≡ told_flag y → x ≡ y
+flag-one true true e = refl
+flag-one false false e = refl
+flag-one true false e = absurd (cons-ne-nil 1 [] e)
+flag-one false true e = absurd (nil≢cons e)

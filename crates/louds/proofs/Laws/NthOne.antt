@@ -7,12 +7,12 @@
 --     picking-next            one more
 --     picking-last            the next is the one sought
 --     picking-none            there are no more
---     end-at, has-kth         an answer that is no 64
---     end-few                 and one that is
---     from_byte               the j-th one by the digits from a place on
+--     has-kth, has-fewer      the word has so many ones, or fewer
+--     byte-has, from_byte     the j-th one by the digits from a place on
 --
 -- Assumes nothing.
-use Rattle.std.specs.Prelude.{None, Option, Some, unwrap_or}
+use Rattle.std.specs.Prelude.{None, Some}
+use Rattle.std.specs.Option.{IsSome}
 use Rattle.std.proofs.Common.{◌≡◌, ℕ, zero, suc, ◌+◌, ◌-◌, ◌*◌, ◌/◌, ◌%◌, ◌^◌, ◌<◌, ◌≤◌, sym, refl, ap, ◌∙◌, ap₂, lt_of_lt_of_le, lt_of_le_of_lt, mod-eq_of_lt, add-one, one-add, arith, lit<, lit≤, pow_mono}
 use native.Mathlib.Decide.{dec_le}
 use lib.Pow.{shr_le}
@@ -24,7 +24,7 @@ use Rattle.louds.specs.Digits.{digit, above}
 use Rattle.louds.specs.Taking.{low_bits, top_bits}
 use Rattle.louds.specs.Select.{kth}
 use Rattle.louds.proofs.Laws.Words.{ones_low}
-use Rattle.louds.proofs.Laws.Select.{kth-at, kth-none, kth-exists, kth-told, Found}
+use Rattle.louds.proofs.Laws.Select.{kth-at, kth-none, kth-exists, kth-missing, kth-told, Found}
 use Rattle.louds.proofs.Laws.Digits.{digit-shr, digit-beyond, and_both, and_one, shifted-low, above-all, above-end, above_wide, ones-few, ones_step, ones-flat, Turn, turn}
 use Rattle.louds.proofs.Laws.Fields.{joined, joined-ext, joined-add, joined-lt, joined-field, joined-digit, joined-shl, delayed, delayed-before, delayed-at}
 use Rattle.louds.proofs.Laws.ByteRanks.{ones-parts, ranked, ranked-zero, byte_ranks}
@@ -205,10 +205,10 @@ module _ (x j : ℕ) (wide : x < 2 ^ word_bits) where
 
   module _ (left rest : ℕ) (p : Picking x j left rest) where
     -- nothing is left, so there are fewer
-    pub picking-none : rest ≡ 0 → word_bits ≡ unwrap_or (kth (digit x) word_bits j) word_bits
+    pub picking-none : rest ≡ 0 → None ≡ kth (digit x) word_bits j
     picking-none none =
         let flat = ones-flat x word_bits p.place p.low (λ t a b. above-end x p.place t (sym p.cleared ∙ none) a) in
-        sym (ap (λ (o : Option ℕ). unwrap_or o word_bits) (kth-none (digit x) word_bits j (omega (arith, ones_low x word_bits, flat, p.sum, p.some))))
+        sym (kth-none (digit x) word_bits j (omega (arith, ones_low x word_bits, flat, p.sum, p.some)))
 
     module _ (more : rest ≡ 0 → ⊥) where
       lowest-left : Turn x p.place rest
@@ -226,40 +226,26 @@ module _ (x j : ℕ) (wide : x < 2 ^ word_bits) where
         some = omega (arith, p.some, h);
       }
 
-      pub picking-last : left ≡ 1 → count_trailing_zeros word_bits rest ≡ unwrap_or (kth (digit x) word_bits j) word_bits
+      pub picking-last : left ≡ 1 → Some (count_trailing_zeros word_bits rest) ≡ kth (digit x) word_bits j
       picking-last last =
           let before = ones_low x lowest-left.place in
-          lowest-left.is-lowest
-          ∙ ap (λ (o : Option ℕ). unwrap_or o word_bits)
-          (sym
+          ap Some lowest-left.is-lowest
+          ∙ sym
           (kth-at (digit x) word_bits lowest-left.place j lowest-left.inside (omega (arith, before, none_between, p.sum, p.some))
-          (omega (arith, before, none_between, p.sum, last, lowest-left.one))))
+          (omega (arith, before, none_between, p.sum, last, lowest-left.one)))
 
--- ---- an answer that is no 64
+-- ---- whether the word has it
 
-pub end-at : (s : Option ℕ) (p : ℕ) → p ≡ unwrap_or s word_bits → (p ≡ word_bits → ⊥) → s ≡ Some p
-end-at (Some q) p is l = ap Some (sym is)
-end-at None p is l = absurd (l is)
+pub has-kth : (x j : ℕ) → x < 2 ^ word_bits → 0 < j → j ≤ ones x → IsSome (kth (digit x) word_bits j)
+has-kth x j wide some enough =
+    let f = kth-exists (digit x) word_bits j some (omega (arith, enough, ones_low x word_bits, ap ones (mod-eq_of_lt wide))) in
+    rw f.1.answer
 
--- a word that has so many
-pub has-kth : (x j p : ℕ) → x < 2 ^ word_bits → 0 < j → j ≤ ones x → p ≡ unwrap_or (kth (digit x) word_bits j) word_bits → kth (digit x) word_bits j ≡ Some p
-has-kth x j p wide some enough is = at (kth-exists (digit x) word_bits j some (omega (arith, enough, ones_low x word_bits, ap ones (mod-eq_of_lt wide))))
-  where
-    at : (q : ℕ) × Found (digit x) word_bits j q → kth (digit x) word_bits j ≡ Some p
-    at f = f.1.answer ∙ ap Some (sym (is ∙ ap (λ (o : Option ℕ). unwrap_or o word_bits) f.1.answer))
-
--- a word that has fewer
-pub end-few : (x j : ℕ) → x < 2 ^ word_bits → 0 < j → word_bits ≡ unwrap_or (kth (digit x) word_bits j) word_bits → ones x < j
-end-few x j wide some is = go (dec_le j (ones x))
-  where
-    go : Dec (j ≤ ones x) → ones x < j
-    go (no h) = omega arith
-    go (yes h) =
-        let f = kth-told (digit x) word_bits j word_bits (has-kth x j word_bits wide some h is) in
-        absurd (omega (arith, f.inside))
+pub has-fewer : (x j : ℕ) → x < 2 ^ word_bits → 0 < j → None ≡ kth (digit x) word_bits j → ones x < j
+has-fewer x j wide some is = omega (arith, kth-missing (digit x) word_bits j some (sym is), ones_low x word_bits, ap ones (mod-eq_of_lt wide))
 
 -- the j-th one of a word, by the digits from `start` on
-module _ (x j start p : ℕ) (wide : x < 2 ^ word_bits) (fewer : ones (x % 2 ^ start) < j) (enough : j ≤ ones x) where
+module _ (x j start : ℕ) (wide : x < 2 ^ word_bits) (fewer : ones (x % 2 ^ start) < j) (enough : j ≤ ones x) where
   abbrev from_start : ℕ
   from_start = x / 2 ^ start
 
@@ -273,13 +259,14 @@ module _ (x j start p : ℕ) (wide : x < 2 ^ word_bits) (fewer : ones (x % 2 ^ s
       ∙ ones-parts x start word_bits
       ∙ ap (λ (y : ℕ). ones (x % 2 ^ start) + ones y) (mod-eq_of_lt from-wide)
 
-  pub from_byte : p ≡ unwrap_or (kth (digit from_start) word_bits (j - ones (x % 2 ^ start))) word_bits → kth (digit x) word_bits j ≡ Some (start + p)
-  from_byte is = kth-at (digit x) word_bits (start + p) j inside (omega (arith, before, f.before)) (omega (arith, before, one, f.upto))
+  pub byte-has : IsSome (kth (digit from_start) word_bits (j - ones (x % 2 ^ start)))
+  byte-has = has-kth from_start (j - ones (x % 2 ^ start)) from-wide (omega (arith, fewer)) (omega (arith, enough, both-parts))
+
+  pub from_byte : (p : ℕ) → kth (digit from_start) word_bits (j - ones (x % 2 ^ start)) ≡ Some p → kth (digit x) word_bits j ≡ Some (start + p)
+  from_byte p is = kth-at (digit x) word_bits (start + p) j inside (omega (arith, before, f.before)) (omega (arith, before, one, f.upto))
     where
       f : Found (digit from_start) word_bits (j - ones (x % 2 ^ start)) p
-      f =
-          kth-told (digit from_start) word_bits (j - ones (x % 2 ^ start)) p
-          (has-kth from_start (j - ones (x % 2 ^ start)) p from-wide (omega (arith, fewer)) (omega (arith, enough, both-parts)) is)
+      f = kth-told (digit from_start) word_bits (j - ones (x % 2 ^ start)) p is
 
       before : sum_below (digit x) (start + p) ≡ ones (x % 2 ^ start) + sum_below (digit from_start) p
       before = ones_low x (start + p) ∙ ones-parts x start p ∙ ap (λ (y : ℕ). ones (x % 2 ^ start) + y) (sym (ones_low from_start p))

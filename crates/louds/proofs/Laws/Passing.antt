@@ -13,7 +13,7 @@
 --     zeros-at, zeros-short, no-zeros  where all bits are zeros
 --
 -- Assumes nothing.
-use Rattle.std.specs.Prelude.{None, Some, unwrap_or}
+use Rattle.std.specs.Prelude.{None, Some}
 use Rattle.std.proofs.Common.{◌≡◌, ℕ, zero, suc, ◌+◌, ◌-◌, ◌*◌, ◌/◌, ◌%◌, ◌^◌, ◌<◌, ◌≤◌, min, List, length, sym, refl, ap, ◌∙◌, ⊎_elim, zero-le, le_refl, lt_of_lt_of_le, mod-lt, mod-eq_of_lt, eq-zero-or-pos, lt_of_not-le, arith, pow_pos}
 use native.Mathlib.Nat.{min-le_right}
 use native.Mathlib.Decide.{dec_le}
@@ -27,7 +27,7 @@ use Rattle.louds.specs.Select.{kth, onward, marks, bit_from}
 use Rattle.louds.proofs.Laws.Rank.{gap-zero, ones-zeros}
 use Rattle.louds.proofs.Laws.Digits.{above_wide}
 use Rattle.louds.proofs.Laws.Select.{kth-bare, kth-at, kth-none, kth-zero, kth-ext, kth-onward, sum_below-onward, onward-at, onward-before}
-use Rattle.louds.proofs.Laws.NthOne.{end-few}
+use Rattle.louds.proofs.Laws.NthOne.{has-fewer}
 use Rattle.louds.proofs.Laws.MarkWords.{mark_word, mark_word-lt, mark_word-ones, Look, look, look-inside, look-past, none_left, marks-ext, marks-small, onward-small, first_word, next_word, none_before}
 
 -- ---- one value, from a place on
@@ -128,12 +128,12 @@ module _ (ws : List ℕ) (len v from k : ℕ) where
     abbrev end : ℕ
     end = min len ((from / word_bits + 1) * word_bits)
 
-    pub near_none : word_bits ≡ unwrap_or (kth (digit first) word_bits k) word_bits → None ≡ bit_from (bit ws) end v from k
+    pub near_none : None ≡ kth (digit first) word_bits k → None ≡ bit_from (bit ws) end v from k
     near_none none = sym (⊎_elim (λ z. ap (kth sought end) z ∙ kth-zero sought end) few (eq-zero-or-pos k))
       where
         few : 0 < k → kth sought end k ≡ None
         few some =
-            let fewer = end-few first k (mod-lt (x / 2 ^ (from % word_bits) * 2 ^ (from % word_bits)) (pow_pos word_bits)) some none in
+            let fewer = has-fewer first k (mod-lt (x / 2 ^ (from % word_bits) * 2 ^ (from % word_bits)) (pow_pos word_bits)) some none in
             let ends = sum_below-mono sought {i = end} {j = (from / word_bits + 1) * word_bits} (min-le_right len ((from / word_bits + 1) * word_bits)) in
             kth-none sought end k (omega (arith, fewer, ends, ap ones (first_marks x is), mark_word-ones sought sought-small (from / word_bits), none_before (marks (bit ws) v) from))
 
@@ -161,18 +161,19 @@ zero-mark : (i : ℕ) → marks (λ j. 0) 0 i ≡ 1
 unfolding marks
 zero-mark i = gap-zero (λ j. 0) i refl
 
-pub zeros-at : (len from k : ℕ) → 0 < k → k ≤ len - from → Some (from + (k - 1)) ≡ bit_from (λ i. 0) len 0 from k
-zeros-at len from k some h =
+pub zeros-at : (len v from k : ℕ) → v ≡ 0 → 0 < k → k ≤ len - from → Some (from + (k - 1)) ≡ bit_from (λ i. 0) len v from k
+zeros-at len v from k zeros some h =
     let m = marks (λ j. 0) 0 in
-    sym
+    rw zeros
+    (sym
     (kth-onward m from len k some
     ∙ kth-at m len (from + (k - 1)) (sum_below m from + k) (omega (arith, some, h)) (omega (arith, some, zero-marks from, zero-marks (from + (k - 1))))
-    (omega (arith, some, zero-marks from, zero-marks (from + (k - 1)), zero-mark (from + (k - 1)))))
+    (omega (arith, some, zero-marks from, zero-marks (from + (k - 1)), zero-mark (from + (k - 1))))))
 
-pub zeros-short : (len from k : ℕ) → 0 < k → len - from < k → None ≡ bit_from (λ i. 0) len 0 from k
-zeros-short len from k some h =
+pub zeros-short : (len v from k : ℕ) → v ≡ 0 → 0 < k → len - from < k → None ≡ bit_from (λ i. 0) len v from k
+zeros-short len v from k zeros some h =
     let m = marks (λ j. 0) 0 in
-    sym (kth-onward m from len k some ∙ kth-none m len (sum_below m from + k) (omega (arith, some, h, zero-marks from, zero-marks len)))
+    rw zeros (sym (kth-onward m from len k some ∙ kth-none m len (sum_below m from + k) (omega (arith, some, h, zero-marks from, zero-marks len))))
 
 no-mark : (v : ℕ) → (v ≡ 0 → ⊥) → (i : ℕ) → marks (λ j. 0) v i ≡ 0
 unfolding marks

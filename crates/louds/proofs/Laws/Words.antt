@@ -7,13 +7,15 @@
 --     ones-whole    one whole word more
 --     ones-part     the whole words, and the part of the last
 --     ones-beyond   beyond the last word there are no ones
+--     ones-passed   so as many words are passed as there are
 --     one_shl       `1 << n`
 --     one-shl-pos   it is no 0
 --     masked        `w & ((1 << n) - 1)`
 --
 -- Assumes nothing.
-use Rattle.std.proofs.Common.{◌≡◌, ℕ, zero, suc, ◌+◌, ◌-◌, ◌*◌, ◌/◌, ◌%◌, ◌^◌, ◌<◌, ◌≤◌, List, length, get_or, sym, refl, ap, ◌∙◌, le_refl, lt_of_lt_of_le, le_of_suc-le-suc, not-suc-le-zero, le_of_lt, mod-lt, mod-eq_of_lt, zero-lt-suc, one-mul, div-add-mod', one-add, arith, lit<, pow_pos}
+use Rattle.std.proofs.Common.{◌≡◌, ℕ, zero, suc, ◌+◌, ◌-◌, ◌*◌, ◌/◌, ◌%◌, ◌^◌, ◌<◌, ◌≤◌, min, List, length, get_or, sym, refl, ap, ◌∙◌, le_refl, lt_of_lt_of_le, le_of_suc-le-suc, not-suc-le-zero, le_of_lt, mod-lt, mod-eq_of_lt, zero-lt-suc, one-mul, div-add-mod', one-add, arith, lit<, pow_pos}
 use native.Mathlib.Nat.{mod-one}
+use native.Mathlib.Decide.{dec_le}
 use lib.Pow.{pow-lt, mod-pow-add}
 use lib.Bits.{bit_and, and_mask}
 use lib.Count.{ones, ones_cat}
@@ -71,3 +73,10 @@ module _ (ws : List ℕ) where
       let e : i ≡ w * word_bits + r = omega arith in
       let none = sum_below-none (λ j. bit ws (w * word_bits + j)) r (λ j l. bit-beyond ws (w * word_bits + j) (omega (arith, out))) in
       ap (ones_before (bit ws)) e ∙ omega (arith, sum_below-add (bit ws) (w * word_bits) r, none)
+
+  pub ones-passed : (n i : ℕ) → n ≡ min (i / word_bits) (length ws) → ones_before (bit ws) (n * word_bits) ≡ ones_before (bit ws) (i / word_bits * word_bits)
+  ones-passed n i is = go (dec_le (i / word_bits) (length ws))
+    where
+      go : Dec (i / word_bits ≤ length ws) → ones_before (bit ws) (n * word_bits) ≡ ones_before (bit ws) (i / word_bits * word_bits)
+      go (yes h) = ap (λ (q : ℕ). ones_before (bit ws) (q * word_bits)) (omega arith)
+      go (no h) = sym (ones-beyond n (i / word_bits * word_bits) (omega arith) (omega arith))

@@ -8,23 +8,23 @@
 --     push-keeps       so does a push, whatever it answers
 -- Assumes nothing.
 use Prim.Native.Nat.{ℕ, ◌+◌, ◌-◌, ◌≤◌, ◌<◌}
-use mathlib.Core.Path.{◌≡◌, refl, ◌∙◌, ap, subst}
+use mathlib.Core.Path.{◌≡◌, refl, sym, ◌∙◌, ap, subst}
 use mathlib.Core.Bool.{Bool, true, false, cond}
 use mathlib.Core.List.{[], ◌∷◌}
 use mathlib.Core.Logic.{◌⊎◌, inl, inr, ⊎_elim}
 use native.Mathlib.Omega.{arith}
 use lib.ListN.{length, drop, length-append}
 use lib.Dec.{leb, ltb, eqb}
-use borrow.Author.Tests.{le-ltb, lt-ltb, le-leb, lt-leb, eq-eqb, ne_eqb, leb-true, eqb-false}
+use borrow.Author.Tests.{le-ltb, le-leb, lt-leb, eq-eqb, ne_eqb, leb-true, eqb-false}
 use Rattle.keymap.specs.Key.{Key, Bytes}
 use Rattle.keymap.specs.Refusals.{refuses}
 use Rattle.keymap.specs.declared.refusals.Refusal.{Refusal}
 use Rattle.records.specs.Words.{Pool, record_words, used_count, InUse, Node, capacity}
 use Rattle.records.specs.Sound.{Sound}
-use Rattle.records.specs.SoundTest.{sound_test}
+use Rattle.records.specs.SoundTest.{sound_test, check_sound}
 use Rattle.records.proofs.Laws.Spelling.{spells-node, spells-in-use}
-use Rattle.records.proofs.Laws.SoundTest.{test-sound}
-use Rattle.pool.specs.declared.answers.Pushed.{Pushed}
+use Rattle.records.proofs.Laws.SoundTest.{test-sound, passed-test}
+use Rattle.std.specs.Prelude.{Result, Ok, Err}
 use Rattle.pool.specs.declared.path.Reach.{Reach}
 use Rattle.pool.specs.Answers.{said_pushed, accepted}
 use Rattle.pool.specs.Path.{reach_of, missing_labels}
@@ -52,21 +52,21 @@ module _ (p : Pool) (key : Key) where
   unfolding missing_labels
   missing-reach r e = rw e refl
 
-  pub push-small : length p < record_words → refuses Refusal.PoolTooSmall ≡ push_says p key
-  unfolding push_says
-  push-small h = simp (lt-ltb _ _ h)
+  -- a refusal of the pool is the push's, and leaves the pool as it was
+  pub push-refused : (v : ℕ) (r : Refusal) → check_sound p ≡ Err r → (refuses r ≡ push_says p key) × (p ≡ push_pool p key v)
+  unfolding check_sound push_says push_pool
+  push-refused v r e = go (ltb (length p) record_words) (sound_test p) e
+    where
+      go : (t u : Bool) → cond t (Err Refusal.PoolTooSmall) (cond u (Ok (tt {0})) (Err Refusal.NotAPool)) ≡ Err r
+          → (refuses r ≡ cond t (refuses Refusal.PoolTooSmall) (cond u (tested_says p key) (refuses Refusal.NotAPool)))
+          × (p ≡ cond (accepted (cond t (refuses Refusal.PoolTooSmall) (cond u (tested_says p key) (refuses Refusal.NotAPool)))) (inserted p key v) p)
+      go true u q = let k : Refusal.PoolTooSmall ≡ r = cc in (ap refuses (sym k), refl)
+      go false true q = absurd (cc)
+      go false false q = let k : Refusal.NotAPool ≡ r = cc in (ap refuses (sym k), refl)
 
-  pub push-unsound : record_words ≤ length p → sound_test p ≡ false → refuses Refusal.NotAPool ≡ push_says p key
+  pub push-tested : check_sound p ≡ Ok tt → tested_says p key ≡ push_says p key
   unfolding push_says
-  push-unsound h e = simp (le-ltb _ _ h, e)
-
-  pub push-tested : record_words ≤ length p → sound_test p ≡ true → tested_says p key ≡ push_says p key
-  unfolding push_says
-  push-tested h e = simp (le-ltb _ _ h, e)
-
-  pub push-refused : (v : ℕ) (r : Pushed) → said_pushed r ≡ push_says p key → accepted (said_pushed r) ≡ false → p ≡ push_pool p key v
-  unfolding push_pool
-  push-refused v r e f = rw (← e, f)
+  push-tested e = let t = passed-test p e in simp (le-ltb _ _ t.0, t.1)
 
   pub push-left : (v : ℕ) (q : Pool) → tested_says p key ≡ push_says p key → q ≡ cond (accepted (tested_says p key)) (inserted p key v) p → q ≡ push_pool p key v
   unfolding push_pool
@@ -126,15 +126,15 @@ module _ (p : Pool) (key : Key) (v : ℕ) (s : Sound p) (bytes : Bytes key) (non
 
 -- ---- the promise of a push into a sound pool, where the walk came to r
 module _ (p : Pool) (key : Key) (v : ℕ) (s : Sound p) where
-  pub tested-refused : (a : Pushed) → said_pushed a ≡ tested_says p key → accepted (said_pushed a) ≡ false → TestedPush p key v a p
+  pub tested-refused : (a : Result (Unit {0}) Refusal) → said_pushed a ≡ tested_says p key → accepted (said_pushed a) ≡ false → TestedPush p key v a p
   tested-refused a e f = record { answer = e; left = rw (← e, f); sound = s }
 
   module _ (r : Reach) (walked : r ≡ reach_of p key) where
     pub depth-within : r.depth ≤ length key
     depth-within = rw walked (split-within p key (reach_split p s.children key))
 
-    pub full-refused : (length key ≡ 0 → ⊥) → capacity p < used_count p + (length key - r.depth) → TestedPush p key v Pushed.NoRoom p
-    full-refused n h = tested-refused Pushed.NoRoom (tested-full p key n (omega (arith, missing-reach p key r walked))) refl
+    pub full-refused : (length key ≡ 0 → ⊥) → capacity p < used_count p + (length key - r.depth) → TestedPush p key v (Err Refusal.NoRoom) p
+    full-refused n h = tested-refused (Err Refusal.NoRoom) (tested-full p key n (omega (arith, missing-reach p key r walked))) refl
 
     module _ (bytes : Bytes key) (nonempty : length key ≡ 0 → ⊥) (room : used_count p + (length key - r.depth) ≤ capacity p) where
       fits : used_count p + missing_labels p key ≤ capacity p
@@ -146,7 +146,7 @@ module _ (p : Pool) (key : Key) (v : ℕ) (s : Sound p) where
       pub end-inside : (q : Pool) (t : ℕ) → q ≡ entered_all p r.at (drop r.depth key) → t ≡ last_entered p r.at (drop r.depth key) → Inside q t
       end-inside q t e f = rw (e, f, walked) (end-within p key v s bytes nonempty fits)
 
-      pub done-accepted : (q : Pool) → q ≡ marked (entered_all p r.at (drop r.depth key)) (last_entered p r.at (drop r.depth key)) v → TestedPush p key v Pushed.Done q
+      pub done-accepted : (q : Pool) → q ≡ marked (entered_all p r.at (drop r.depth key)) (last_entered p r.at (drop r.depth key)) v → TestedPush p key v (Ok tt) q
       unfolding inserted inserted_at
       done-accepted q e =
           let d = tested-done p key nonempty fits in

@@ -7,25 +7,28 @@
 --     sound-..                           the cases of the whole test
 --     test-sound, sound-test, sound-iff  the test is true exactly of a sound pool
 --     said-means-sound                   and so is an answer that is the test's
+--     check-..                           the cases of the refusal; it is none exactly of a sound pool
 -- Assumes nothing.
 use Prim.Native.Nat.{ℕ, zero, suc, ◌+◌, ◌-◌, ◌≤◌, ◌<◌}
 use mathlib.Core.Path.{◌≡◌, refl, sym, ◌∙◌, ap, subst}
-use mathlib.Core.Bool.{Bool, true, false, cond, and-eq-true_iff}
+use mathlib.Core.Bool.{Bool, true, false, cond, ◌&&◌, and-eq-true_iff}
 use mathlib.Core.List.{List, [], ◌∷◌, ◌++◌}
 use mathlib.Core.Logic.{inl, inr, ⊎_elim, ◌↔◌}
 use lib.Dec.{leb, ltb, eqb}
 use lib.ListN.{length, length-append}
-use borrow.Author.Tests.{lt-ltb, le-leb, lt-leb, eq-eqb, ne_eqb, leb-true, ltb-true, eqb-true, eqb-false}
+use borrow.Author.Tests.{lt-ltb, le-leb, lt-leb, eq-eqb, ne_eqb, leb-true, ltb-true, eqb-true, eqb-false, le-ltb, ltb-false}
 use native.Mathlib.Omega.{arith}
 use native.Mathlib.Nat.{eq-or-lt_of_le}
 use native.Mathlib.Numerals.{sub-one}
 use Rattle.keymap.specs.Limits.{byte_limit}
 use Rattle.keymap.specs.Label.{mark}
-use Rattle.records.specs.declared.soundness.Rest.{Rest}
-use Rattle.records.specs.declared.soundness.Rest.TheVariants.{Left, Broken}
+use Rattle.std.specs.Prelude.{Option, None, Some, Result, Ok, Err}
+use Rattle.std.specs.Option.{option_eq}
+use Rattle.std.proofs.lemmas.Bool.Decides.{nat_tests}
+use Rattle.keymap.specs.declared.refusals.Refusal.{Refusal}
 use Rattle.records.specs.Words.{Pool, record_words, entry, label, value, first_child, next_sibling, parent, last_record, used_count, InUse, capacity}
 use Rattle.records.specs.Sound.{Among, Chain, LabelsRise, ChildChain, Sound}
-use Rattle.records.specs.SoundTest.{both, words_fit, record_fits, is_child, chain_rest, record_rest, pass_rest, none_left, root_fits, sound_test}
+use Rattle.records.specs.SoundTest.{both, words_fit, record_fits, is_child, chain_rest, record_rest, pass_rest, none_left, root_fits, sound_test, check_sound}
 use Rattle.records.proofs.Laws.Distinct.{Once, equal_or_not, in-append, in_left, in_right, once-append, once-at-most, cover-at-least, once-covers}
 use Rattle.records.proofs.Laws.Words.{count-last, node-within, within-node}
 use Rattle.records.proofs.Laws.Sound.{rises-distinct}
@@ -42,19 +45,26 @@ both_true : (a b : Bool) → a ≡ true → b ≡ true → both a b ≡ true
 unfolding both
 both_true a b e f = simp (e, f)
 
+pub both_is : (a b : Bool) → both a b ≡ (a && b)
+unfolding both
+both_is a b = refl
+
+-- what tests of numbers say, taken together
+pub ruleset tests = (nat_tests, both_is)
+
 -- ---- the loops' cases
 module _ (p : Pool) (n c : ℕ) where
-  pub chain-rest-end : (left x l : ℕ) → x ≡ 0 → chain_rest p n c left x l ≡ Left left
+  pub chain-rest-end : (left x l : ℕ) → x ≡ 0 → chain_rest p n c left x l ≡ Some left
   unfolding chain_rest
   chain-rest-end zero x l e = simp (eq-eqb _ _ e)
   chain-rest-end (suc k) x l e = simp (eq-eqb _ _ e)
 
-  pub chain-rest-full : (left x l : ℕ) → left ≡ 0 → (x ≡ 0 → ⊥) → chain_rest p n c left x l ≡ Broken
+  pub chain-rest-full : (left x l : ℕ) → left ≡ 0 → (x ≡ 0 → ⊥) → chain_rest p n c left x l ≡ None
   unfolding chain_rest
   chain-rest-full zero x l z e = simp (ne_eqb _ _ e)
   chain-rest-full (suc k) x l z e = absurd (omega arith)
 
-  pub chain-rest-stray : (left x l : ℕ) → (x ≡ 0 → ⊥) → is_child p n c x l ≡ false → chain_rest p n c left x l ≡ Broken
+  pub chain-rest-stray : (left x l : ℕ) → (x ≡ 0 → ⊥) → is_child p n c x l ≡ false → chain_rest p n c left x l ≡ None
   unfolding chain_rest
   chain-rest-stray zero x l e b = simp (ne_eqb _ _ e)
   chain-rest-stray (suc k) x l e b = simp (ne_eqb _ _ e, b)
@@ -65,28 +75,35 @@ module _ (p : Pool) (n c : ℕ) where
   chain-rest-step zero x l e z b = absurd (z refl)
   chain-rest-step (suc k) x l e z b = simp (ne_eqb _ _ e, b, sub-one)
 
-  pub record-rest-unfit : (left : ℕ) → record_fits p n c ≡ false → record_rest p n c (Left left) ≡ Broken
+  pub record-rest-unfit : (left : ℕ) → record_fits p n c ≡ false → record_rest p n c (Some left) ≡ None
   unfolding record_rest
   record-rest-unfit left e = simp e
 
-  pub record-rest-fit : (left : ℕ) → record_fits p n c ≡ true → record_rest p n c (Left left) ≡ chain_rest p n c left (first_child p c) 0
+  pub record-rest-fit : (left : ℕ) → record_fits p n c ≡ true → record_rest p n c (Some left) ≡ chain_rest p n c left (first_child p c) 0
   unfolding record_rest
   record-rest-fit left e = simp e
 
+pub ruleset chain_cases = (chain-rest-end, chain-rest-full, chain-rest-stray, chain-rest-step)
+
 module _ (p : Pool) (n all : ℕ) where
-  pub pass-start : pass_rest p n all 0 ≡ Left all
+  pub pass-start : pass_rest p n all 0 ≡ Some all
   unfolding pass_rest
   pass-start = refl
 
-  pub pass-more : (c left : ℕ) (r : Rest) → pass_rest p n all c ≡ Left left → record_rest p n c (Left left) ≡ r → pass_rest p n all (suc c) ≡ r
+  pub pass-more : (c left : ℕ) (r : Option ℕ) → pass_rest p n all c ≡ Some left → record_rest p n c (Some left) ≡ r → pass_rest p n all (suc c) ≡ r
   unfolding pass_rest
   pass-more c left r a b = rw a b
 
-  pub pass-broken : (j m : ℕ) → j ≤ m → pass_rest p n all j ≡ Broken → pass_rest p n all m ≡ Broken
+  pub pass-broken : (j m : ℕ) → j ≤ m → pass_rest p n all j ≡ None → pass_rest p n all m ≡ None
   unfolding pass_rest record_rest
-  pass-broken j zero l e = let z : j ≡ zero = omega arith in subst (λ (k : ℕ). pass_rest p n all k ≡ Broken) z e
+  pass-broken j zero l e = let z : j ≡ zero = omega arith in subst (λ (k : ℕ). pass_rest p n all k ≡ None) z e
   pass-broken j (suc m) l e =
-      ⊎_elim (λ q. subst (λ (k : ℕ). pass_rest p n all k ≡ Broken) q e) (λ lt. rw (pass-broken j m (omega arith) e)) (eq-or-lt_of_le l)
+      ⊎_elim (λ q. subst (λ (k : ℕ). pass_rest p n all k ≡ None) q e) (λ lt. rw (pass-broken j m (omega arith) e)) (eq-or-lt_of_le l)
+
+-- how the code asks whether none are left
+pub eq-none_left : (r : Option ℕ) → option_eq eqb r (Some 0) ≡ none_left r
+eq-none_left None = refl
+eq-none_left (Some k) = refl
 
 pub root-fits-within : (n most v x q : ℕ) → root_fits n most v x q ≡ true → n ≤ most
 unfolding root_fits
@@ -158,10 +175,10 @@ record Followed (p : Pool) (n c left x l k : ℕ) : Type 0 where
   only : (y : ℕ) → Among y kids → (0 < y) × (y ≤ n) × (parent p y ≡ c)
   count : left ≡ length kids + k
 
-left-same : (a b : ℕ) → Left a ≡ Left b → a ≡ b
+left-same : (a b : ℕ) → Some a ≡ Some b → a ≡ b
 left-same a b e = cc
 
-broken-left : (k : ℕ) → Broken ≡ Left k → ⊥
+broken-left : (k : ℕ) → None ≡ Some k → ⊥
 broken-left k e = let z : ◌≡◌ {A = ℕ} 0 1 = cc in omega arith
 
 module _ (p : Pool) (n c : ℕ) where
@@ -187,35 +204,35 @@ module _ (p : Pool) (n c : ℕ) where
         count = omega (arith, w.count);
       }
 
-  rest-followed : (left x l k : ℕ) → chain_rest p n c left x l ≡ Left k → Followed p n c left x l k
+  rest-followed : (left x l k : ℕ) → chain_rest p n c left x l ≡ Some k → Followed p n c left x l k
   unfolding chain_rest
   rest-followed zero x l k e = go (eqb x 0) refl e
     where
-      go : (t : Bool) → eqb x 0 ≡ t → cond t (Left zero) Broken ≡ Left k → Followed p n c zero x l k
+      go : (t : Bool) → eqb x 0 ≡ t → cond t (Some zero) None ≡ Some k → Followed p n c zero x l k
       go true a b = ends-here zero x l k (eqb-true _ _ a) (left-same _ _ b)
       go false a b = absurd (broken-left k b)
   rest-followed (suc m) x l k e = go (eqb x 0) (is_child p n c x l) refl refl e (λ q. rest-followed m (next_sibling p x) (label p x + 1) k q)
     where
       go : (t s : Bool) → eqb x 0 ≡ t → is_child p n c x l ≡ s
-          → cond t (Left (suc m)) (cond s (chain_rest p n c m (next_sibling p x) (label p x + 1)) Broken) ≡ Left k
-          → (chain_rest p n c m (next_sibling p x) (label p x + 1) ≡ Left k → Followed p n c m (next_sibling p x) (label p x + 1) k)
+          → cond t (Some (suc m)) (cond s (chain_rest p n c m (next_sibling p x) (label p x + 1)) None) ≡ Some k
+          → (chain_rest p n c m (next_sibling p x) (label p x + 1) ≡ Some k → Followed p n c m (next_sibling p x) (label p x + 1) k)
           → Followed p n c (suc m) x l k
       go true s a d b ih = ends-here (suc m) x l k (eqb-true _ _ a) (left-same _ _ b)
       go false true a d b ih = goes_on m x l k (eqb-false _ _ a) d (ih b)
       go false false a d b ih = absurd (broken-left k b)
 
   followed-rest : (xs : List ℕ) (left x l : ℕ) → Chain (next_sibling p) x xs → LabelsRise p l xs → ((y : ℕ) → Among y xs → (0 < y) × (y ≤ n) × (parent p y ≡ c))
-      → length xs ≤ left → chain_rest p n c left x l ≡ Left (left - length xs)
-  followed-rest [] left x l a r o h = let z : left ≡ left - 0 = omega arith in chain-rest-end p n c left x l a ∙ ap Left z
+      → length xs ≤ left → chain_rest p n c left x l ≡ Some (left - length xs)
+  followed-rest [] left x l a r o h = let z : left ≡ left - 0 = omega arith in chain-rest-end p n c left x l a ∙ ap Some z
   followed-rest (y ∷ xs) left x l a r o h =
       let m = o y (inl refl) in
       let e : x ≡ y = a.0 in
       let k : is_child p n c x l ≡ true = subst (λ (z : ℕ). is_child p n c z l ≡ true) (sym e) (of-child y l m.1 m.2 r.0) in
       let s = chain-rest-step p n c left x l (λ q. omega arith) (λ q. omega arith) k in
-      let rest : chain_rest p n c (left - 1) (next_sibling p y) (label p y + 1) ≡ Left (left - 1 - length xs) =
+      let rest : chain_rest p n c (left - 1) (next_sibling p y) (label p y + 1) ≡ Some (left - 1 - length xs) =
       followed-rest xs (left - 1) (next_sibling p y) (label p y + 1) a.2 r.1 (λ z q. o z (inr q)) (omega arith) in
       let z : left - 1 - length xs ≡ left - suc (length xs) = omega arith in
-      s ∙ subst (λ (w : ℕ). chain_rest p n c (left - 1) (next_sibling p w) (label p w + 1) ≡ Left (left - suc (length xs))) (sym e) (rest ∙ ap Left z)
+      s ∙ subst (λ (w : ℕ). chain_rest p n c (left - 1) (next_sibling p w) (label p w + 1) ≡ Some (left - suc (length xs))) (sym e) (rest ∙ ap Some z)
 
 -- ---- the pass, from the test to soundness
 module _ (p : Pool) (n all : ℕ) where
@@ -267,18 +284,18 @@ module _ (p : Pool) (n all : ℕ) where
             back = λ x m e. ⊎_elim (λ a. let q = w.only x a in absurd (omega arith)) (λ b. h.back x b e) (in-append x w.kids u.met m);
           }
 
-  rest-passed : (j k : ℕ) → pass_rest p n all j ≡ Left k → Passed j k
+  rest-passed : (j k : ℕ) → pass_rest p n all j ≡ Some k → Passed j k
   unfolding pass_rest record_rest
   rest-passed zero k e = record { met = []; once = tt; inside = λ x h. absurd h; count = omega (arith, left-same _ _ e); each = λ c l. absurd (omega arith) }
   rest-passed (suc j) k e = go (pass_rest p n all j) refl e (λ m q. rest-passed j m q)
     where
-      fit : (t : Bool) (m : ℕ) → record_fits p n j ≡ t → cond t (chain_rest p n j m (first_child p j) 0) Broken ≡ Left k → Passed j m → Passed (suc j) k
+      fit : (t : Bool) (m : ℕ) → record_fits p n j ≡ t → cond t (chain_rest p n j m (first_child p j) 0) None ≡ Some k → Passed j m → Passed (suc j) k
       fit true m f b u = passed-next j m k u f (rest-followed p n j m (first_child p j) 0 k b)
       fit false m f b u = absurd (broken-left k b)
 
-      go : (r : Rest) → pass_rest p n all j ≡ r → record_rest p n j r ≡ Left k → ((m : ℕ) → pass_rest p n all j ≡ Left m → Passed j m) → Passed (suc j) k
-      go (Left m) a b ih = fit (record_fits p n j) m refl b (ih m a)
-      go Broken a b ih = absurd (broken-left k b)
+      go : (r : Option ℕ) → pass_rest p n all j ≡ r → record_rest p n j r ≡ Some k → ((m : ℕ) → pass_rest p n all j ≡ Some m → Passed j m) → Passed (suc j) k
+      go (Some m) a b ih = fit (record_fits p n j) m refl b (ih m a)
+      go None a b ih = absurd (broken-left k b)
 
 -- ---- and from soundness to the test
 module _ (p : Pool) (s : Sound p) where
@@ -287,7 +304,7 @@ module _ (p : Pool) (s : Sound p) where
 
   record Passes (j : ℕ) : Type 0 where
     met : List ℕ
-    left : pass_rest p n n j ≡ Left (n - length met)
+    left : pass_rest p n n j ≡ Some (n - length met)
     once : Once met
     inside : (x : ℕ) → Among x met → (0 < x) × (x ≤ n) × (parent p x < j)
     all : (x : ℕ) → InUse p x → parent p x < j → Among x met
@@ -314,7 +331,7 @@ module _ (p : Pool) (s : Sound p) where
         left =
             pass-more p n n j (n - length d.met) _ d.left
             (record-rest-fit p n j (n - length d.met) (fits_each j l)
-            ∙ followed-rest p n j k.kids (n - length d.met) (first_child p j) 0 k.chain k.rising (λ x h. let o = k.only x h in (o.0.0, o.0.1, o.1)) (omega arith) ∙ ap Left z);
+            ∙ followed-rest p n j k.kids (n - length d.met) (first_child p j) 0 k.chain k.rising (λ x h. let o = k.only x h in (o.0.0, o.0.1, o.1)) (omega arith) ∙ ap Some z);
         once = once;
         inside = within;
         all = λ x u e. ⊎_elim (λ (q : suc (parent p x) ≡ suc j). in_left x k.kids d.met (k.all x u (omega arith))) (λ lt. in_right x k.kids d.met (d.all x u (omega arith))) (eq-or-lt_of_le e);
@@ -329,19 +346,19 @@ module _ (p : Pool) (s : Sound p) where
 
   passes : (j : ℕ) → j ≤ suc n → Passes j
   unfolding pass_rest
-  passes zero l = record { met = []; left = let z : n ≡ n - 0 = omega arith in ap Left z; once = tt; inside = λ x h. absurd h; all = λ x u e. absurd (omega arith) }
+  passes zero l = record { met = []; left = let z : n ≡ n - 0 = omega arith in ap Some z; once = tt; inside = λ x h. absurd h; all = λ x u e. absurd (omega arith) }
   passes (suc j) l = passes-next j (omega arith) (passes j (omega arith))
 
-  passes-all : pass_rest p n n (suc n) ≡ Left 0
+  passes-all : pass_rest p n n (suc n) ≡ Some 0
   passes-all =
       let d = passes (suc n) (omega arith) in
       let m : n ≤ length d.met = cover-at-least n d.met (λ x a b. d.all x (a, b) (omega (arith, (s.fits x (a, b)).parent-below))) in
       let z : n - length d.met ≡ 0 = omega arith in
-      d.left ∙ ap Left z
+      d.left ∙ ap Some z
 
-none_left_lem : (r : Rest) → none_left r ≡ true → r ≡ Left 0
-none_left_lem (Left k) e = ap Left (eqb-true k 0 e)
-none_left_lem Broken e = let z : ◌≡◌ {A = ℕ} 0 1 = cc in absurd (omega arith)
+none_left_lem : (r : Option ℕ) → none_left r ≡ true → r ≡ Some 0
+none_left_lem (Some k) e = ap Some (eqb-true k 0 e)
+none_left_lem None e = let z : ◌≡◌ {A = ℕ} 0 1 = cc in absurd (omega arith)
 
 pub test-sound : (p : Pool) → sound_test p ≡ true → Sound p
 unfolding sound_test root_fits
@@ -367,10 +384,40 @@ unfolding sound_test root_fits
 sound-test p s =
     both_true _ _ (le-leb _ _ s.rooted)
     (both_true _ _ (both_true _ _ (le-leb _ _ s.within) (both_true _ _ (eq-eqb _ _ s.root.0) (both_true _ _ (eq-eqb _ _ s.root.1) (eq-eqb _ _ s.root.2))))
-    (let z : pass_rest p (last_record p) (used_count p) (suc (last_record p)) ≡ Left 0 = rw count-last (passes-all p s) in ap none_left z))
+    (let z : pass_rest p (last_record p) (used_count p) (suc (last_record p)) ≡ Some 0 = rw count-last (passes-all p s) in ap none_left z))
 
 pub sound-iff : (p : Pool) → (sound_test p ≡ true) ↔ Sound p
 sound-iff p = (test-sound p, sound-test p)
 
 pub said-means-sound : (p : Pool) (said : Bool) → said ≡ sound_test p → (said ≡ true) ↔ Sound p
 said-means-sound p said e = (λ t. test-sound p (sym e ∙ t), λ s. e ∙ sound-test p s)
+
+-- ---- how a slice that is no sound pool is refused
+module _ (p : Pool) where
+  pub check-small : length p < record_words → Err Refusal.PoolTooSmall ≡ check_sound p
+  unfolding check_sound
+  check-small h = simp (lt-ltb _ _ h)
+
+  pub check-unsound : record_words ≤ length p → sound_test p ≡ false → Err Refusal.NotAPool ≡ check_sound p
+  unfolding check_sound
+  check-unsound h e = simp (le-ltb _ _ h, e)
+
+  pub check-passed : record_words ≤ length p → sound_test p ≡ true → Ok tt ≡ check_sound p
+  unfolding check_sound
+  check-passed h e = simp (le-ltb _ _ h, e)
+
+  pub passed-test : check_sound p ≡ Ok tt → (record_words ≤ length p) × (sound_test p ≡ true)
+  unfolding check_sound
+  passed-test e = go (ltb (length p) record_words) (sound_test p) refl refl e
+    where
+      go : (t u : Bool) → ltb (length p) record_words ≡ t → sound_test p ≡ u
+          → cond t (Err Refusal.PoolTooSmall) (cond u (Ok (tt {0})) (Err Refusal.NotAPool)) ≡ Ok (tt {0}) → (record_words ≤ length p) × (sound_test p ≡ true)
+      go true u a b q = absurd (cc)
+      go false true a b q = (ltb-false _ _ a, b)
+      go false false a b q = absurd (cc)
+
+  pub sound-passed : Sound p → check_sound p ≡ Ok tt
+  sound-passed s = sym (check-passed s.rooted (sound-test p s))
+
+  pub check-means-sound : (r : Result (Unit {0}) Refusal) → r ≡ check_sound p → (r ≡ Ok tt) ↔ Sound p
+  check-means-sound r e = (λ q. test-sound p (passed-test (sym e ∙ q)).1, λ s. e ∙ sound-passed s)

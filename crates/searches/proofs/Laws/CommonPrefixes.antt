@@ -15,8 +15,8 @@ use native.Mathlib.Decide.{dec_le}
 use native.Mathlib.Numerals.{add-one}
 use native.Mathlib.Omega.{arith}
 use mathlib.Core.Bool.{Bool, true, false}
-use mathlib.Core.List.{List, [], ◌∷◌, ◌++◌}
-use Rattle.std.specs.Prelude.{Option, None, Some}
+use mathlib.Core.List.{List, [], ◌∷◌, ◌++◌, head-eq_of_cons-eq}
+use Rattle.std.specs.Prelude.{Option, None, Some, Result, Ok, Err}
 use Rattle.std.proofs.lemmas.Option.{none-some}
 use lib.ListN.{length, get_or, take, drop}
 use lib.Dec.{leb}
@@ -25,12 +25,14 @@ use borrow.Author.Tests.{lt-leb, leb-false}
 use Rattle.keymap.specs.Members.{In}
 use Rattle.keymap.specs.Key.{Key, PrefixOf}
 use Rattle.keymap.specs.Refusals.{refuses}
+use Rattle.keymap.specs.declared.refusals.Refusal.{Refusal}
 use Rattle.keymap.specs.declared.refusals.Refusal.TheVariants.{NotAnImage as refused-image}
 use Rattle.keymap.specs.Map.{Entry, Map, Rising, lookup}
 use Rattle.keymap.specs.Queries.{common_prefix_in}
 use Rattle.keymap.specs.Bits.{bit}
 use Rattle.keymap.specs.Image.{Image, bits_for}
 use Rattle.keymap.specs.Decode.{image_map}
+use Rattle.keymap.proofs.Laws.Refusals.{no_zero}
 use Rattle.keymap.proofs.Laws.Begins.{prefix-leading, prefix-take, prefix-length}
 use Rattle.keymap.proofs.Laws.Map.{lookup-iff}
 use Rattle.keymap.proofs.Laws.Queries.{common_prefix_in-some, common_prefix_in-none, common_prefix_in-within}
@@ -41,9 +43,8 @@ use Rattle.walks.specs.Rule.{step_by, value_at_end}
 use Rattle.walks.specs.MapNodes.{node_at}
 use Rattle.walks.proofs.Laws.MapWalk.{step-rule, walk-rule, value-rule, root-rule}
 use Rattle.searches.specs.declared.answers.Common.{Common}
-use Rattle.searches.specs.declared.answers.Common.TheVariants.{Match, NoMatch, NotAnImage}
 use Rattle.searches.specs.Answers.{said_common}
-use Rattle.searches.specs.CommonPrefixes.{unless_seen, or_further, shortest_from, match_of, says_common, common_says, part_of, common_part, part_length}
+use Rattle.searches.specs.CommonPrefixes.{unless_seen, or_further, shortest_from, match_of, says_common, common_says, part_of, common_part}
 
 -- no leading part of the query that is longer than what was seen and no longer than j has a value
 abbrev pub NoneTo : Map → Key → ℕ → ℕ → Type 0
@@ -177,15 +178,21 @@ module _ (i : Image) (h : MapImage i) (q : Key) (seen : ℕ) where
   shortest-rule =
       ap (shortest_from i seen q 0) (sym (root-rule i h)) ∙ from-rule (length q) 0 (omega arith) (λ d l u. absurd (omega arith))
 
-  pub said-rule : said_common (match_of (shortest_from i seen q 0 (Some 1))) ≡ says_common (common_prefix_in q seen (image_map i))
+  pub said-rule : said_common (Ok (match_of (shortest_from i seen q 0 (Some 1)))) ≡ says_common (common_prefix_in q seen (image_map i))
   unfolding told
-  said-rule = ap (λ (o : Option (ℕ × ℕ)). said_common (match_of o)) shortest-rule ∙ go (common_prefix_in q seen (image_map i))
+  said-rule = ap (λ (o : Option (ℕ × ℕ)). said_common (Ok (match_of o))) shortest-rule ∙ go (common_prefix_in q seen (image_map i))
     where
-      go : (o : Option Entry) → said_common (match_of (told o)) ≡ says_common o
+      go : (o : Option Entry) → said_common (Ok (match_of (told o))) ≡ says_common o
       go None = refl
       go (Some e) = refl
 
 -- ---- what the call says
+
+-- how long the part is that goes with an answer
+abbrev pub part_length : Result (Option Common) Refusal → ℕ
+part_length (Ok (Some c)) = c.length
+part_length (Ok None) = 0
+part_length (Err r) = 0
 
 module _ (i : Image) (q : Key) (seen : ℕ) where
   pub common_says-refused : image_test i ≡ false → common_says i q seen ≡ refuses refused-image
@@ -196,24 +203,23 @@ module _ (i : Image) (q : Key) (seen : ℕ) where
   unfolding common_says
   common_says-accepted e = rw e
 
-  pub part-is : (r : Common) → said_common r ≡ common_says i q seen → (part_length r ≤ length q) × (take (part_length r) q ≡ common_part i q seen)
+  pub part-is : (r : Result (Option Common) Refusal) → said_common r ≡ common_says i q seen → (part_length r ≤ length q) × (take (part_length r) q ≡ common_part i q seen)
   unfolding common_says common_part
   part-is r e = go (image_test i) refl
     where
-      found : (o : Option Entry) (a : Common) → common_prefix_in q seen (image_map i) ≡ o → said_common a ≡ says_common o → (part_length a ≤ length q) × (take (part_length a) q ≡ part_of q o)
-      found None (Match l v) f g = let z : ◌≡◌ {A = List ℕ} (l ∷ v ∷ []) [] = cc in let w : ◌≡◌ {A = ℕ} 0 1 = cc in absurd (omega arith)
-      found None NoMatch f g = (omega arith, refl)
-      found None NotAnImage f g = let z : ◌≡◌ {A = ℕ} 6 0 = cc in absurd (omega arith)
-      found (Some d) (Match l v) f g =
-          let size : l ≡ length d.0 = cc in
+      found : (o : Option Entry) (a : Result (Option Common) Refusal) → common_prefix_in q seen (image_map i) ≡ o → said_common a ≡ says_common o → (part_length a ≤ length q) × (take (part_length a) q ≡ part_of q o)
+      found None (Ok (Some c)) f g = let z : ◌≡◌ {A = List ℕ} (c.length ∷ c.value ∷ []) [] = cc in let w : ◌≡◌ {A = ℕ} 0 1 = cc in absurd (omega arith)
+      found None (Ok None) f g = (omega arith, refl)
+      found None (Err x) f g = (omega arith, refl)
+      found (Some d) (Ok (Some c)) f g =
+          let size : c.length ≡ length d.0 = cc in
           (omega (arith, size, prefix-length d.0 q (common_prefix_in-within q seen (image_map i) d f)), ap (λ (n : ℕ). take n q) size)
-      found (Some d) NoMatch f g = let z : ◌≡◌ {A = List ℕ} [] (length d.0 ∷ d.1 ∷ []) = cc in let w : ◌≡◌ {A = ℕ} 0 1 = cc in absurd (omega arith)
-      found (Some d) NotAnImage f g = let z : ◌≡◌ {A = ℕ} 6 0 = cc in absurd (omega arith)
+      found (Some d) (Ok None) f g = let z : ◌≡◌ {A = List ℕ} [] (length d.0 ∷ d.1 ∷ []) = cc in let w : ◌≡◌ {A = ℕ} 0 1 = cc in absurd (omega arith)
+      found (Some d) (Err x) f g = absurd (no_zero x (sym (head-eq_of_cons-eq g)))
 
-      refused : (a : Common) → said_common a ≡ refuses refused-image → (part_length a ≤ length q) × (take (part_length a) q ≡ [])
-      refused (Match l v) g = let z : ◌≡◌ {A = ℕ} 0 6 = cc in absurd (omega arith)
-      refused NoMatch g = let z : ◌≡◌ {A = ℕ} 0 6 = cc in absurd (omega arith)
-      refused NotAnImage g = (omega arith, refl)
+      refused : (a : Result (Option Common) Refusal) → said_common a ≡ refuses refused-image → (part_length a ≤ length q) × (take (part_length a) q ≡ [])
+      refused (Ok o) g = let z : ◌≡◌ {A = ℕ} 0 6 = cc in absurd (omega arith)
+      refused (Err x) g = (omega arith, refl)
 
       go : (t : Bool) → image_test i ≡ t → (part_length r ≤ length q) × (take (part_length r) q ≡ common_part i q seen)
       go true f = rw f (found (common_prefix_in q seen (image_map i)) r refl (rw f at e))

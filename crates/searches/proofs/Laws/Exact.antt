@@ -1,6 +1,7 @@
 -- What the calls on one key compute on any slices, by cases; and what they say: of an image that no map has refusal 6, else what the map says.
 -- Setting the value of a key sets that one entry, and the image is then that of the map with the key's value set: the same paths, so the same labels and bits, and one other value.
 --
+--     keyed-value                   what `find` finds has the walk's value
 --     keyed_in-lost, -plain, -held  the answer of `find`, and back: `keyed-found`, `keyed-missed`
 --     found_inside  a node with a value has its entry, on any slices
 --     found-key     on a map's image it is the key's, with its value
@@ -16,11 +17,10 @@ use mathlib.Core.Logic.{inr}
 use Prim.Native.Nat.{ℕ, ◌-◌, ◌≤◌, ◌<◌}
 use native.Mathlib.Nat.{lt_of_not-le}
 use native.Mathlib.Decide.{dec_le}
-use native.Mathlib.Omega.{arith}
 use mathlib.Core.Bool.{Bool, true, false}
 use mathlib.Core.List.{List}
-use Rattle.std.specs.Prelude.{Option, None, Some}
-use Rattle.std.proofs.lemmas.Option.{none-some}
+use Rattle.std.specs.Prelude.{Option, None, Some, option_map}
+use Rattle.std.proofs.lemmas.Option.{none-some, same_Some}
 use lib.ListN.{length, set}
 use lib.Dec.{ltb}
 use Rattle.keymap.specs.Key.{Key}
@@ -48,13 +48,13 @@ use Rattle.walks.proofs.Laws.Rule.{value_of_node-root, value_of_node-short}
 use Rattle.walks.proofs.Laws.MapImage.{labels-are, values-are, words_are}
 use Rattle.walks.proofs.Laws.MapWalk.{PathTold, there, absent, path-told, walk-rule, value-rule}
 use Rattle.walks.proofs.Laws.MapMoves.{kids-some}
-use Rattle.searches.specs.declared.exact.Keyed.TheVariants.{At, NoKey}
+use Rattle.walks.specs.declared.entries.KeyNode.{KeyNode}
 use Rattle.searches.specs.Exact.{keyed, keyed_in, goes_on_from, goes_on, exact_says, set_values, is_prefix_says}
 
 -- ---- a key by its node, on any slices
 
 module _ (i : Image) (q : Key) where
-  pub keyed_in-lost : node_by i q ≡ None → keyed_in i q ≡ NoKey
+  pub keyed_in-lost : node_by i q ≡ None → keyed_in i q ≡ None
   unfolding keyed_in
   keyed_in-lost e = ap (λ (o : Option ℕ). keyed o (found_by i q)) e
 
@@ -62,11 +62,11 @@ module _ (i : Image) (q : Key) where
     ended : found_by i q ≡ value_of_node i.labels i.values m
     ended = ap (value_at_end i.labels i.values) e
 
-    pub keyed_in-plain : value_of_node i.labels i.values m ≡ None → keyed_in i q ≡ NoKey
+    pub keyed_in-plain : value_of_node i.labels i.values m ≡ None → keyed_in i q ≡ None
     unfolding keyed_in
     keyed_in-plain f = ap (λ (o : Option ℕ). keyed o (found_by i q)) e ∙ ap (keyed (Some m)) (ended ∙ f)
 
-    pub keyed_in-held : (v : ℕ) → value_of_node i.labels i.values m ≡ Some v → keyed_in i q ≡ At m v
+    pub keyed_in-held : (v : ℕ) → value_of_node i.labels i.values m ≡ Some v → keyed_in i q ≡ Some (record { node = m; value = v })
     unfolding keyed_in
     keyed_in-held v f = ap (λ (o : Option ℕ). keyed o (found_by i q)) e ∙ ap (keyed (Some m)) (ended ∙ f)
 
@@ -74,26 +74,40 @@ module _ (i : Image) (q : Key) where
     pub node : node_by i q ≡ Some m
     pub value : found_by i q ≡ Some v
 
-  pub keyed-found : (m v : ℕ) → keyed_in i q ≡ At m v → Found m v
+  pub keyed-found : (m v : ℕ) → keyed_in i q ≡ Some (record { node = m; value = v }) → Found m v
   unfolding keyed_in
   keyed-found m v e = go (node_by i q) refl (found_by i q) refl
     where
       go : (o : Option ℕ) → node_by i q ≡ o → (p : Option ℕ) → found_by i q ≡ p → Found m v
-      go None f p g = let h = keyed_in-lost f in let z : ◌≡◌ {A = ℕ} 0 1 = cc in absurd (omega arith)
-      go (Some k) f None g = let h = keyed_in-plain k f (sym (ended k f) ∙ g) in let z : ◌≡◌ {A = ℕ} 0 1 = cc in absurd (omega arith)
+      go None f p g = absurd (none-some _ (sym (keyed_in-lost f) ∙ e))
+      go (Some k) f None g = absurd (none-some _ (sym (keyed_in-plain k f (sym (ended k f) ∙ g)) ∙ e))
       go (Some k) f (Some w) g =
           let h = keyed_in-held k f w (sym (ended k f) ∙ g) in
-          let one : k ≡ m = cc in
-          let other : w ≡ v = cc in
+          let same = same_Some _ _ (sym h ∙ e) in
+          let one : k ≡ m = ap (λ (n : KeyNode). n.node) same in
+          let other : w ≡ v = ap (λ (n : KeyNode). n.value) same in
           record { node = f ∙ ap Some one; value = g ∙ ap Some other }
 
-  pub keyed-missed : keyed_in i q ≡ NoKey → found_by i q ≡ None
+  pub keyed-missed : keyed_in i q ≡ None → found_by i q ≡ None
   keyed-missed e = go (node_by i q) refl (found_by i q) refl
     where
       go : (o : Option ℕ) → node_by i q ≡ o → (p : Option ℕ) → found_by i q ≡ p → found_by i q ≡ None
       go None f p g = ap (value_at_end i.labels i.values) f
       go (Some k) f None g = g
-      go (Some k) f (Some w) g = let h = keyed_in-held k f w (sym (ended k f) ∙ g) in let z : ◌≡◌ {A = ℕ} 0 1 = cc in absurd (omega arith)
+      go (Some k) f (Some w) g = let h = keyed_in-held k f w (sym (ended k f) ∙ g) in absurd (none-some _ (sym e ∙ h))
+
+  -- the value alone is what the walk finds
+  pub keyed-value : option_map (λ (n : KeyNode). n.value) (keyed_in i q) ≡ found_by i q
+  unfolding keyed_in
+  keyed-value = go (node_by i q) refl
+    where
+      go : (o : Option ℕ) → node_by i q ≡ o → option_map (λ (n : KeyNode). n.value) (keyed (node_by i q) (found_by i q)) ≡ found_by i q
+      go None f = ap (λ (o : Option ℕ). option_map (λ (n : KeyNode). n.value) (keyed o (found_by i q))) f ∙ sym (ap (value_at_end i.labels i.values) f)
+      go (Some k) f = ap (λ (o : Option ℕ). option_map (λ (n : KeyNode). n.value) (keyed o (found_by i q))) f ∙ held (found_by i q)
+        where
+          held : (p : Option ℕ) → option_map (λ (n : KeyNode). n.value) (keyed (Some k) p) ≡ p
+          held None = refl
+          held (Some v) = refl
 
   -- a node with a value has an entry
   pub found_inside : (m v : ℕ) → Found m v → (2 ≤ m) × (m - 2 < length i.values)

@@ -29,7 +29,6 @@ use Rattle.keymap.specs.Answers.{says_value}
 use Rattle.keymap.specs.Bits.{bit}
 use Rattle.keymap.specs.Image.{Image, bits_for}
 use Rattle.louds.specs.declared.answers.Children.{Children}
-use Rattle.louds.specs.Nodes.{Run}
 use Rattle.louds.specs.Nodes.{children_of}
 use Rattle.louds.proofs.Laws.Nodes.{children-agree}
 use Rattle.image.specs.Accept.{entries, node_entry}
@@ -103,9 +102,9 @@ module _ (ls ks : List ℕ) (b c : ℕ → ℕ) (len : ℕ) (same : length ls �
     where
       go : (t : Option Children) → children_of b len k ≡ t → child_by ls b len k a ≡ child_by ks c len k a
       go None e = child_by-none ls b len k a e ∙ sym (child_by-none ks c len k a (sym (children-agree b c len bits k) ∙ e))
-      go (Run f n) e =
-          let own : (m : ℕ) → In m (looked_at ls k n f a) → get_or ls (m - 2) 0 ≡ get_or ks (m - 2) 0 = rw e at agree in
-          child_by-run ls b len k a f n e ∙ lowest-alike n ls ks k f a same own ∙ sym (child_by-run ks c len k a f n (sym (children-agree b c len bits k) ∙ e))
+      go (Some r) e =
+          let own : (m : ℕ) → In m (looked_at ls k r.count r.first a) → get_or ls (m - 2) 0 ≡ get_or ks (m - 2) 0 = rw e at agree in
+          child_by-run ls b len k a r.first r.count e ∙ lowest-alike r.count ls ks k r.first a same own ∙ sym (child_by-run ks c len k a r.first r.count (sym (children-agree b c len bits k) ∙ e))
 
   step-alike : (a : ℕ) (o : Option ℕ) → ((m : ℕ) → In m (looked_over ls b len a o) → get_or ls (m - 2) 0 ≡ get_or ks (m - 2) 0) → step_by ls b len a o ≡ step_by ks c len a o
   step-alike a None agree = refl
@@ -127,7 +126,7 @@ module _ (ls : List ℕ) (b : ℕ → ℕ) (len : ℕ) where
     where
       go : (t : Option Children) → children_of b len k ≡ t → In m (looked_over ls b len a (Some k))
       go None f = absurd (none-some m (sym (child_by-none ls b len k a f) ∙ e))
-      go (Run f n) g = rw g (taken-looked n ls k f a m (sym (child_by-run ls b len k a f n g) ∙ e))
+      go (Some r) g = rw g (taken-looked r.count ls k r.first a m (sym (child_by-run ls b len k a r.first r.count g) ∙ e))
 
   step-looked : (a : ℕ) (o : Option ℕ) (m : ℕ) → step_by ls b len a o ≡ Some m → In m (looked_over ls b len a o)
   step-looked a None m e = absurd (none-some m e)
@@ -229,7 +228,7 @@ module _ (ls : List ℕ) (b : ℕ → ℕ) (len : ℕ) where
     where
       go : (t : Option Children) → children_of b len k ≡ t → In m (siblings_at ls b len (Some k))
       go None e = rw e (rw e at n)
-      go (Run f c) e = rw e (counted-looked c ls k f a m (rw e at n))
+      go (Some r) e = rw e (counted-looked r.count ls k r.first a m (rw e at n))
 
   pub looked-met : (q : Key) (o : Option ℕ) (m : ℕ) → In m (looked_from ls b len q o) → In m (met_from ls b len q o)
   unfolding looked_from met_from

@@ -1,17 +1,13 @@
--- `climbs::order::next_valued` meets its contract. The invariant: the perch knows its one, and the search goes on from behind its node.
--- The measure is how many steps are left. Assumes nothing.
+-- `climbs::order::next_valued` meets its contract. The invariant: the perch knows its one, and the search goes on from behind its node, with as many steps as are left. Assumes nothing.
 use mathlib.Core.Path.{◌≡◌}
-use Prim.Native.Nat.{◌+◌}
+use Prim.Native.Nat.{◌+◌, ◌-◌}
 use lib.ListN.{length}
 use Rattle.keymap.specs.Bits.{bit}
 use Rattle.climbs.specs.Perches.{perch_at}
 use Rattle.climbs.specs.Order.{advance_by, sought_from, next_by}
 use Rattle.climbs.proofs.order.next_valued.Given as goal
 
-abbrev pub invariant-loop-left : goal.invariant-loop-left
-invariant-loop-left l =
+abbrev pub invariant-loop : goal.invariant-loop
+invariant-loop l =
     (l.at ≡ perch_at (bit l.words) l.len l.at.node)
-    × (next_by l.labels l.values (bit l.words) l.len l.top l.node ≡ sought_from l.labels l.values (bit l.words) l.len l.top l.left (advance_by (bit l.words) l.len (length l.labels + 1) l.top l.at.node))
-
-abbrev pub decreases-loop-left : goal.decreases-loop-left
-decreases-loop-left l = l.left
+    × (next_by l.labels l.values (bit l.words) l.len l.top l.node ≡ sought_from l.labels l.values (bit l.words) l.len l.top (length l.labels + 1 - l.counter) (advance_by (bit l.words) l.len (length l.labels + 1) l.top l.at.node))

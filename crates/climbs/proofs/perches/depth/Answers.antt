@@ -16,8 +16,8 @@ loop-up-init c =
     let own : c.perch_at-at.result.node ≡ a.node = ap (λ (p : Perch). p.node) told in
     (told ∙ ap (perch_at b a.len) (sym own), omega (arith, own), omega (arith, ap (depth_by b a.len) own))
 
-pub returns-in_default : goal.returns-in_default
-returns-in_default c =
+pub returns : goal.returns
+returns c =
     let a = c.args in
     let l = c.loop-up in
     let b = bit a.words.now in

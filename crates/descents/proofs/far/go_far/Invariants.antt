@@ -2,9 +2,7 @@
 -- Assumes nothing.
 use mathlib.Core.Path.{◌≡◌}
 use Rattle.std.specs.Prelude.{Some}
-use Prim.Native.Nat.{◌-◌, ◌*◌, ◌≤◌}
 use lib.ListN.{length, drop}
-use Rattle.keymap.specs.Limits.{word_bits}
 use Rattle.keymap.specs.Bits.{bit}
 use Rattle.walks.specs.Rule.{walked_from, walked}
 use Rattle.descents.proofs.Laws.Far.{Keeping}
@@ -12,11 +10,6 @@ use Rattle.descents.proofs.far.go_far.Given as goal
 
 abbrev pub invariant-loop-i : goal.invariant-loop-i
 invariant-loop-i l =
-    (l.i ≤ length l.query)
-    × (l.whole ≤ length l.words)
-    × (l.whole * word_bits ≤ l.len)
-    × Keeping l.words l.whole l.node l.w l.left l.zeros l.sums
+    Keeping l.words l.whole l.node l.kept
     × (walked l.labels (bit l.words) l.len l.query ≡ walked_from l.labels (bit l.words) l.len (drop l.i l.query) (Some l.node))
-
-abbrev pub decreases-loop-i : goal.decreases-loop-i
-decreases-loop-i l = length l.query - l.i
+    × (l.steps ≡ length l.query)

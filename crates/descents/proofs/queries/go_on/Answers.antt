@@ -10,11 +10,6 @@ use Rattle.walks.proofs.Laws.Stands.{down_along-next, down_along-over, down_alon
 use Rattle.descents.proofs.queries.go_on.Goals.{After-down}
 use Rattle.descents.proofs.queries.go_on.Goals as goal
 
-pub loop-j-init : goal.loop-j-init
-loop-j-init c =
-    let a = c.args in
-    ap (λ (s : Stand). down_along a.labels.now (bit a.words.now) a.len (drop a.steps a.query.now) (Some s)) (sym c.stand_near-s.ensures)
-
 -- a step down, and what is left from there
 next : (c : After-down) (t : Option Stand) → c.down.result ≡ t
     → let a = c.args in
@@ -28,17 +23,18 @@ next c t e =
     down_along-next a.labels.now b a.len a.query.now l.j l.s (omega arith)
     ∙ ap (down_along a.labels.now b a.len (drop (l.j + 1) a.query.now)) (sym c.down.ensures ∙ e)
 
-pub returns-in_default : goal.returns-in_default
-returns-in_default c =
+pub returns-in_err-s : goal.returns-in_err-s
+returns-in_err-s c =
     let a = c.args in
     let l = c.loop-j in
-    sym (l.invariant ∙ next (goal.at.returns-in_default c).After-down _ c.in_default.is ∙ down_along-lost a.labels.now (bit a.words.now) a.len (drop (l.j + 1) a.query.now))
+    c.from_residual.ensures
+    ∙ sym (l.invariant ∙ next (goal.at.returns-in_err-s c).After-down _ c.in_err-s.was ∙ down_along-lost a.labels.now (bit a.words.now) a.len (drop (l.j + 1) a.query.now))
 
 pub loop-j-preserved : goal.loop-j-preserved
-loop-j-preserved c = c.loop-j.invariant ∙ next (goal.at.loop-j-preserved c).After-down _ c.in-Some.is
+loop-j-preserved c = c.loop-j.invariant ∙ next (goal.at.loop-j-preserved c).After-down _ c.in_ok-s.was
 
 pub returns : goal.returns
 returns c =
     let a = c.args in
     let l = c.loop-j in
-    sym (l.invariant ∙ down_along-over a.labels.now (bit a.words.now) a.len a.query.now l.j (Some l.s) (omega arith))
+    sym (l.invariant ∙ down_along-over a.labels.now (bit a.words.now) a.len a.query.now l.j (Some l.s) (omega (arith, c.loop-j-test.false)))

@@ -1,8 +1,7 @@
 -- `descents::queries::go_on` meets its contract. The invariant: what is left of the query, from the stand, ends where the whole of it does. Assumes nothing.
 use Rattle.std.specs.Prelude.{Some}
 use mathlib.Core.Path.{◌≡◌}
-use Prim.Native.Nat.{◌-◌}
-use lib.ListN.{length, drop}
+use lib.ListN.{drop}
 use Rattle.keymap.specs.Bits.{bit}
 use Rattle.walks.specs.Stands.{down_along}
 use Rattle.descents.specs.Far.{stand_near}
@@ -12,6 +11,3 @@ abbrev pub invariant-loop-j : goal.invariant-loop-j
 invariant-loop-j l =
     down_along l.labels (bit l.words) l.len (drop l.steps l.query) (Some (stand_near (bit l.words) l.len l.node l.kept l.left))
     ≡ down_along l.labels (bit l.words) l.len (drop l.j l.query) (Some l.s)
-
-abbrev pub decreases-loop-j : goal.decreases-loop-j
-decreases-loop-j l = length l.query - l.j

@@ -1,6 +1,4 @@
--- `image::entries::write_entries` meets its contract. The invariant: the first j entries are written over the front of each buffer. The measure is what is left.
--- Assumes nothing.
-use Prim.Native.Nat.{◌≤◌, ◌-◌}
+-- `image::entries::write_entries` meets its contract. The invariant: the first j entries are written over the front of each buffer. Assumes nothing.
 use mathlib.Core.Path.{◌≡◌}
 use mathlib.Core.List.{map}
 use lib.ListN.{length, take}
@@ -9,7 +7,4 @@ use Rattle.keymap.specs.Buffers.{over}
 use Rattle.image.proofs.entries.write_entries.Given as goal
 
 abbrev pub invariant-loop-j : goal.invariant-loop-j
-invariant-loop-j l = (l.j ≤ l.nodes) × (length l.labels ≡ length l.initial.labels) × (length l.values ≡ length l.initial.values) × (l.labels ≡ over (map (entry l.pool) (take l.j l.order)) l.initial.labels) × (l.values ≡ over (map (value l.pool) (take l.j l.order)) l.initial.values)
-
-abbrev pub decreases-loop-j : goal.decreases-loop-j
-decreases-loop-j l = l.nodes - l.j
+invariant-loop-j l = (length l.labels ≡ length l.initial.labels) × (length l.values ≡ length l.initial.values) × (l.labels ≡ over (map (entry l.pool) (take l.j l.order)) l.initial.labels) × (l.values ≡ over (map (value l.pool) (take l.j l.order)) l.initial.values)

@@ -1,13 +1,10 @@
 -- `image::word_test::labels_rise` meets its contract. The invariant: the labels passed rise. Assumes nothing.
 use mathlib.Core.Path.{◌≡◌}
 use mathlib.Core.Bool.{true}
-use Prim.Native.Nat.{◌+◌, ◌-◌, ◌≤◌}
+use Prim.Native.Nat.{◌+◌}
 use Rattle.image.specs.AcceptTest.{labels_rise}
 use Rattle.image.specs.WordTest.{all_below}
 use Rattle.image.proofs.word_test.labels_rise.Given as goal
 
 abbrev pub invariant-loop-j : goal.invariant-loop-j
-invariant-loop-j l = (l.j ≤ l.count) × (all_below (λ i. labels_rise l.labels (l.e + i)) l.j ≡ true)
-
-abbrev pub decreases-loop-j : goal.decreases-loop-j
-decreases-loop-j l = l.count - l.j
+invariant-loop-j l = all_below (λ i. labels_rise l.labels (l.e + i)) l.j ≡ true

@@ -1,6 +1,5 @@
 use mathlib.Core.Path.{◌≡◌, sym, ap, ap₂, ◌∙◌}
 use Prim.Native.Nat.{ℕ, ◌+◌, ◌-◌, ◌*◌}
-use native.Mathlib.Nat.{le_antisymm}
 use native.Mathlib.Omega.{arith}
 use lib.ListN.{length, get_or}
 use Rattle.keymap.specs.Bits.{bit}
@@ -25,7 +24,7 @@ overflow_add-len c = omega (arith, c.requires.framed.few)
 pub loop-w-init : goal.loop-w-init
 loop-w-init c =
     let a = c.args in
-    (omega arith, sym (sum_below-zero (bit a.words.now)), sym (last_before-first a.words.now), all-zero (word_at a.labels.now a.words.now))
+    (sym (sum_below-zero (bit a.words.now)), sym (last_before-first a.words.now), all-zero (word_at a.labels.now a.words.now))
 
 pub overflow_mul-at : goal.overflow_mul-at
 overflow_mul-at c =
@@ -40,7 +39,7 @@ word_fits-requires c =
     let a = c.args in
     let l = c.loop-w in
     let inside = word-inside a.labels.now a.words.now c.requires l.w c.loop-w-test.true in
-    rw (l.invariant.1, l.invariant.2) inside
+    rw (l.invariant.0, l.invariant.1) inside
 
 -- what `word_fits` says
 said : (c : After-word_fits)
@@ -49,7 +48,7 @@ said c =
     let a = c.args in
     let l = c.loop-w in
     c.word_fits.ensures
-    ∙ ap₂ (λ (u v : ℕ). word_fits a.labels.now (get_or a.words.now l.w 0) v (l.w * 64) u (bits_for (length a.labels.now) - l.w * 64)) l.invariant.1 l.invariant.2
+    ∙ ap₂ (λ (u v : ℕ). word_fits a.labels.now (get_or a.words.now l.w 0) v (l.w * 64) u (bits_for (length a.labels.now) - l.w * 64)) l.invariant.0 l.invariant.1
     ∙ sym (word_at-is a.labels.now a.words.now l.w)
 
 pub returns-then-not-word_fits : goal.returns-then-not-word_fits
@@ -63,7 +62,7 @@ step : (c : After-ones_in-before)
     → c.loop-w.before + c.ones_in-before.result ≡ ones_before (bit c.args.words.now) ((c.loop-w.w + 1) * 64)
 step c =
     let l = c.loop-w in
-    ap₂ (λ (u v : ℕ). u + v) l.invariant.1 c.ones_in-before.ensures ∙ sym (ones-whole c.args.words.now l.w (c.requires.framed.wide l.w))
+    ap₂ (λ (u v : ℕ). u + v) l.invariant.0 c.ones_in-before.ensures ∙ sym (ones-whole c.args.words.now l.w (c.requires.framed.wide l.w))
 
 pub overflow_add-before : goal.overflow_add-before
 overflow_add-before c =
@@ -81,16 +80,15 @@ pub loop-w-preserved : goal.loop-w-preserved
 loop-w-preserved c =
     let a = c.args in
     let l = c.loop-w in (
-      omega arith,
       step c,
       sym (last_before-next a.words.now l.w),
       all-next (word_at a.labels.now a.words.now) l.w
-          ∙ and-made (all_below (word_at a.labels.now a.words.now) l.w) (word_at a.labels.now a.words.now l.w) l.invariant.3 (sym (said (goal.at.loop-w-preserved c).After-word_fits) ∙ c.if-not-word_fits.false),
+          ∙ and-made (all_below (word_at a.labels.now a.words.now) l.w) (word_at a.labels.now a.words.now l.w) l.invariant.2 (sym (said (goal.at.loop-w-preserved c).After-word_fits) ∙ c.if-not-word_fits.false),
     )
 
 pub returns : goal.returns
 returns c =
     let a = c.args in
     let l = c.loop-w in
-    let done : length a.words.now ≡ l.w = le_antisymm c.loop-w-test.false l.invariant.0 in
-    sym (ap (all_below (word_at a.labels.now a.words.now)) done ∙ l.invariant.3)
+    let done : length a.words.now ≡ l.w = omega arith in
+    sym (ap (all_below (word_at a.labels.now a.words.now)) done ∙ l.invariant.2)

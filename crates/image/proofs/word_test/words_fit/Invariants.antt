@@ -1,9 +1,8 @@
 -- `image::word_test::words_fit` meets its contract. The invariant: `before` and `last` are the ones and the word before word `w`, and the words before fit.
--- The measure is how many words are left. Assumes nothing.
+-- Assumes nothing.
 use mathlib.Core.Path.{◌≡◌}
 use mathlib.Core.Bool.{true}
-use Prim.Native.Nat.{◌-◌, ◌*◌, ◌≤◌}
-use lib.ListN.{length}
+use Prim.Native.Nat.{◌*◌}
 use Rattle.keymap.specs.Bits.{bit}
 use Rattle.louds.specs.Rank.{ones_before}
 use Rattle.image.specs.WordTest.{all_below, last_before, word_at}
@@ -11,7 +10,4 @@ use Rattle.image.proofs.word_test.words_fit.Given as goal
 
 abbrev pub invariant-loop-w : goal.invariant-loop-w
 invariant-loop-w l =
-    (l.w ≤ length l.words) × (l.before ≡ ones_before (bit l.words) (l.w * 64)) × (l.last ≡ last_before l.words l.w) × (all_below (word_at l.labels l.words) l.w ≡ true)
-
-abbrev pub decreases-loop-w : goal.decreases-loop-w
-decreases-loop-w l = length l.words - l.w
+    (l.before ≡ ones_before (bit l.words) (l.w * 64)) × (l.last ≡ last_before l.words l.w) × (all_below (word_at l.labels l.words) l.w ≡ true)

@@ -4,17 +4,16 @@ use Rattle.keymap.specs.Bits.{bit}
 use Rattle.louds.specs.Select.{kth, onward, marks}
 use Rattle.louds.proofs.Laws.Select.{kth-zero}
 use Rattle.louds.proofs.Laws.Passing.{passed_first, passed-next, passed-short, passed-out, passed-at, passed-past, nothing-behind, zeros-beyond}
-use Rattle.louds.proofs.select.bit_from.Goals.{In-loop-count}
+use Rattle.louds.proofs.select.bit_from.Goals.{In-loop-count, then-k-eq0-via-then-k-eq0, then-k-eq0-via-else-k-eq0+then-len-from}
 use Rattle.louds.proofs.select.bit_from.Goals as goal
 
 pub returns-then-k-eq0 : goal.returns-then-k-eq0
 returns-then-k-eq0 c =
     let a = c.args in
-    let m = onward a.from (marks (bit a.words.now) a.v) in
-    sym (ap (kth m a.len) c.if-k-eq0.true ∙ kth-zero m a.len)
-
-pub returns-then-len-from : goal.returns-then-len-from
-returns-then-len-from c = let a = c.args in nothing-behind a.words.now a.len a.v a.from a.k c.if-len-from.true
+    elim c.then-k-eq0.branch [
+      | then-k-eq0-via-then-k-eq0 w ↦ let m = onward a.from (marks (bit a.words.now) a.v) in sym (ap (kth m a.len) w.if-k-eq0.true ∙ kth-zero m a.len)
+      | then-k-eq0-via-else-k-eq0+then-len-from w ↦ nothing-behind a.words.now a.len a.v a.from a.k w.if-len-from.true
+    ]
 
 pub returns-then-words-w : goal.returns-then-words-w
 returns-then-words-w c =
@@ -77,8 +76,8 @@ returns-then-p-len c =
     let l = c.loop-count in
     passed-at a.words.now a.len a.v a.from a.k l.w l.x l.left l.invariant.0 c.nth_one-p.result c.nth_one-p.ensures (omega (arith, c.if-p-len.true))
 
-pub returns : goal.returns
-returns c =
+pub returns-else-p-len : goal.returns-else-p-len
+returns-else-p-len c =
     let a = c.args in
     let l = c.loop-count in
     passed-past a.words.now a.len a.v a.from a.k l.w l.x l.left l.invariant.0 c.nth_one-p.result c.nth_one-p.ensures (λ h. omega (arith, h, c.if-p-len.false))

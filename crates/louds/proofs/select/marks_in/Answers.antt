@@ -11,14 +11,14 @@ returns-then-v-eq0 c =
     let a = c.args in
     let ws = a.words.now in
     let word = c.word_at-word.ensures in
-    ap complement word ∙ zeros-marked ws a.w (c.shared_slice_known-1.given a.w).fits ∙ ap (λ (v : ℕ). mark_word (marks (bit ws) v) a.w) (sym c.if-v-eq0.true)
+    ap complement word ∙ zeros-marked ws a.w (c.type_inv.words a.w).fits ∙ ap (λ (v : ℕ). mark_word (marks (bit ws) v) a.w) (sym c.if-v-eq0.true)
 
 pub returns-then-v-eq1 : goal.returns-then-v-eq1
 returns-then-v-eq1 c =
     let a = c.args in
     let ws = a.words.now in
     let word = c.word_at-word.ensures in
-    word ∙ ones-marked ws a.w (c.shared_slice_known-1.given a.w).fits ∙ ap (λ (v : ℕ). mark_word (marks (bit ws) v) a.w) (sym c.if-v-eq1.true)
+    word ∙ ones-marked ws a.w (c.type_inv.words a.w).fits ∙ ap (λ (v : ℕ). mark_word (marks (bit ws) v) a.w) (sym c.if-v-eq1.true)
 
 pub returns : goal.returns
 returns c =

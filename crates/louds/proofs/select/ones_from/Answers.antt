@@ -1,10 +1,10 @@
-use Rattle.std.proofs.Common.{◌≡◌, ℕ, ◌+◌, ◌*◌, ◌%◌, sym, ap, ◌∙◌, arith}
+use Rattle.std.proofs.Common.{◌≡◌, ℕ, ◌+◌, ◌-◌, ◌*◌, ◌/◌, ◌%◌, ◌^◌, sym, ap, ◌∙◌, arith}
 use lib.Bits.{bit_and}
 use Rattle.keymap.specs.Limits.{word_bits}
 use Rattle.louds.specs.Digits.{complement}
 use Rattle.louds.specs.Taking.{low_bits, top_bits, cleared, fewer_by}
 use Rattle.louds.proofs.Laws.Taking.{cleared-none, cleared-next, cleared-zero, ones_from-is, start-inside, trailing-most}
-use Rattle.louds.proofs.select.ones_from.Goals.{After-wrapping_add_u64-fewer}
+use Rattle.louds.proofs.select.ones_from.Goals.{After-wrapping_add_u64-fewer, After-lowest_one}
 use Rattle.louds.proofs.select.ones_from.Goals as goal
 
 pub overflow_add-start : goal.overflow_add-start
@@ -25,31 +25,34 @@ fewer-is c =
     let a = c.args in
     c.wrapping_add_u64-fewer.ensures.value ∙ ap (λ (s : ℕ). (s + a.j % 256 * low_bits) % 18446744073709551616) c.wrapping_add_u64.ensures.value
 
-pub loop-over-init : goal.loop-over-init
-loop-over-init c =
+-- how many are taken away
+abbrev over : After-lowest_one → ℕ
+over c = c.wrapping_add_u64-fewer.result / 2 ^ bit_and (c.lowest_one.result + 56) 56 % 128
+
+pub loop-init : goal.loop-init
+loop-init c =
     let a = c.args in
-    ones_from-is a.word a.sums a.j c.wrapping_add_u64-fewer.result c.lowest_one.result (fewer-is (goal.at.loop-over-init c).After-wrapping_add_u64-fewer) c.lowest_one.ensures
+    let x : ℕ = a.word / 2 ^ bit_and (c.lowest_one.result + 56) 56 * 2 ^ bit_and (c.lowest_one.result + 56) 56 % 2 ^ word_bits in
+    let all : over c - 0 ≡ over c = omega arith in
+    ap (λ (n : ℕ). cleared n x) all
+    ∙ ones_from-is a.word a.sums a.j c.wrapping_add_u64-fewer.result c.lowest_one.result (fewer-is (goal.at.loop-init c).After-wrapping_add_u64-fewer) c.lowest_one.ensures
 
 pub returns-then-rest-eq0 : goal.returns-then-rest-eq0
 returns-then-rest-eq0 c =
-    let l = c.loop-over in
-    sym (cleared-zero l.over) ∙ ap (cleared l.over) (sym c.if-rest-eq0.true) ∙ l.invariant
+    let l = c.loop in
+    let left : ℕ = over (goal.at.returns-then-rest-eq0 c).After-lowest_one - l.counter in
+    sym (cleared-zero left) ∙ ap (cleared left) (sym c.if-rest-eq0.true) ∙ l.invariant
 
-pub overflow_sub-rest : goal.overflow_sub-rest
-overflow_sub-rest c = omega (arith, c.if-rest-eq0.false)
-
-pub overflow_sub-over : goal.overflow_sub-over
-overflow_sub-over c = omega (arith, c.loop-over-test.true)
-
-pub loop-over-smaller : goal.loop-over-smaller
-loop-over-smaller c = omega (arith, c.loop-over-test.true)
-
-pub loop-over-preserved : goal.loop-over-preserved
-loop-over-preserved c =
-    let l = c.loop-over in
-    sym (cleared-next l.over l.rest c.loop-over-test.true) ∙ l.invariant
+pub loop-preserved : goal.loop-preserved
+loop-preserved c =
+    let l = c.loop in
+    let all : ℕ = over (goal.at.loop-preserved c).After-lowest_one in
+    let one : all - (l.counter + 1) ≡ all - l.counter - 1 = omega arith in
+    ap (λ (n : ℕ). cleared n (bit_and l.rest (l.rest - 1))) one
+    ∙ sym (cleared-next (all - l.counter) l.rest (omega (arith, c.loop-test.true)))
+    ∙ l.invariant
 
 pub returns : goal.returns
 returns c =
-    let l = c.loop-over in
-    sym (cleared-none l.over l.rest (omega (arith, c.loop-over-test.false))) ∙ l.invariant
+    let l = c.loop in
+    sym (cleared-none (over (goal.at.returns c).After-lowest_one - l.counter) l.rest (omega (arith, c.loop-test.false))) ∙ l.invariant

@@ -1,5 +1,5 @@
-use Rattle.std.specs.Prelude.{unwrap_or, Option}
-use Rattle.std.proofs.Common.{ℕ, sym, ap, ◌∙◌, arith}
+use Rattle.std.specs.Prelude.{Some}
+use Rattle.std.proofs.Common.{sym, ap, ◌∙◌, arith}
 use Rattle.keymap.specs.Limits.{word_bits}
 use Rattle.louds.specs.Digits.{digit}
 use Rattle.louds.specs.Select.{kth}
@@ -8,7 +8,7 @@ use Rattle.louds.proofs.Laws.NthOne.{picking-start, picking-none, picking-next, 
 use Rattle.louds.proofs.select.picked.Goals as goal
 
 pub returns-then-j-eq0 : goal.returns-then-j-eq0
-returns-then-j-eq0 c = let a = c.args in sym (ap (λ (o : Option ℕ). unwrap_or o word_bits) (ap (kth (digit a.word) word_bits) c.if-j-eq0.true ∙ kth-zero (digit a.word) word_bits))
+returns-then-j-eq0 c = let a = c.args in sym (ap (kth (digit a.word) word_bits) c.if-j-eq0.true ∙ kth-zero (digit a.word) word_bits)
 
 pub loop-rest-init : goal.loop-rest-init
 loop-rest-init c = picking-start c.args.word c.args.j c.ranges.word.fits (omega (arith, c.if-j-eq0.false))
@@ -16,7 +16,7 @@ loop-rest-init c = picking-start c.args.word c.args.j c.ranges.word.fits (omega 
 pub returns-then-left-eq1 : goal.returns-then-left-eq1
 returns-then-left-eq1 c =
     let l = c.loop-rest in
-    c.lowest_one.ensures ∙ picking-last c.args.word c.args.j c.ranges.word.fits l.left l.rest l.invariant c.loop-rest-test.true c.if-left-eq1.true
+    ap Some c.lowest_one.ensures ∙ picking-last c.args.word c.args.j c.ranges.word.fits l.left l.rest l.invariant c.loop-rest-test.true c.if-left-eq1.true
 
 pub overflow_sub-rest : goal.overflow_sub-rest
 overflow_sub-rest c = omega (arith, c.loop-rest-test.true)

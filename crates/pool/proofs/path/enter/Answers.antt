@@ -14,7 +14,7 @@ fill-requires c =
 pub link-requires : goal.link-requires
 link-requires c =
     let k = c.requires in
-    (omega (arith, c.fill.auto, node-inside _ _ _ k.sound k.node), omega (arith, c.fill.auto, prev-inside _ _ _ k _ c.slot_of-s.ensures))
+    (omega (arith, c.fill.auto, node-inside _ _ _ k.sound k.node), omega (arith, c.fill.auto, prev-inside _ _ _ k _ c.slot_of-slot.ensures))
 
 pub shape_of-pool : goal.shape_of-pool
 shape_of-pool c = c.take.auto.pool ∙ c.link.auto.pool ∙ c.fill.auto.pool
@@ -22,4 +22,4 @@ shape_of-pool c = c.take.auto.pool ∙ c.link.auto.pool ∙ c.fill.auto.pool
 pub returns : goal.returns
 returns c =
     let m : c.last_record-m.result + 1 ≡ next_record c.args.pool.now = omega (arith, c.last_record-m.ensures, next_last c.args.pool.now) in
-    (m, enter-steps _ _ _ _ _ m c.slot_of-s.ensures _ _ _ c.fill.ensures c.link.ensures c.take.ensures)
+    (m, enter-steps _ _ _ _ _ m c.slot_of-slot.ensures _ _ _ c.fill.ensures c.link.ensures c.take.ensures)

@@ -1,22 +1,15 @@
-use mathlib.Core.Path.{refl, sym, ◌∙◌}
-use native.Mathlib.Omega.{arith}
+use mathlib.Core.Path.{sym, ◌∙◌}
 use Rattle.pool.proofs.Laws.Entering.{enter-all-end, last-entered-end, enter-all-step, last-entered-step, can-enter-here, can-enter-on}
 use Rattle.pool.proofs.path.enter_all.Goals as goal
 
-pub loop-d-init : goal.loop-d-init
-loop-d-init c = (c.requires.1, refl, c.requires.0, refl, refl)
+pub enter-last-requires : goal.enter-last-requires
+enter-last-requires c = rw c.from.ensures (can-enter-here _ _ _ _ c.loop-label-test.true c.loop-label.invariant.1)
 
-pub overflow_cast-key : goal.overflow_cast-key
-overflow_cast-key c = omega (arith, c.shared_slice_known-in-loop-d-1.given c.loop-d.d)
-
-pub enter-i-requires : goal.enter-i-requires
-enter-i-requires c = can-enter-here _ _ _ _ c.loop-d-test.true c.loop-d.invariant.2
-
-pub loop-d-preserved : goal.loop-d-preserved
-loop-d-preserved c = (omega arith, c.enter-i.auto.pool ∙ c.loop-d.invariant.1, can-enter-on _ _ _ _ c.loop-d-test.true c.loop-d.invariant.2 _ _ c.enter-i.ensures.1 c.enter-i.ensures.0, c.loop-d.invariant.3 ∙ last-entered-step _ _ _ _ c.loop-d-test.true ∙ rw (c.enter-i.ensures.1, c.enter-i.ensures.0), c.loop-d.invariant.4 ∙ enter-all-step _ _ _ _ c.loop-d-test.true ∙ rw (c.enter-i.ensures.1, c.enter-i.ensures.0))
-
-pub shape_of-pool : goal.shape_of-pool
-shape_of-pool c = c.loop-d.invariant.1
+pub loop-label-preserved : goal.loop-label-preserved
+loop-label-preserved c =
+    let l = c.loop-label in
+    let e = rw c.from.ensures at c.enter-last.ensures.1 in
+    (c.enter-last.auto.pool ∙ l.invariant.0, can-enter-on _ _ _ _ c.loop-label-test.true l.invariant.1 _ _ e c.enter-last.ensures.0, l.invariant.2 ∙ last-entered-step _ _ _ _ c.loop-label-test.true ∙ rw (e, c.enter-last.ensures.0), l.invariant.3 ∙ enter-all-step _ _ _ _ c.loop-label-test.true ∙ rw (e, c.enter-last.ensures.0))
 
 pub returns : goal.returns
-returns c = (sym (c.loop-d.invariant.3 ∙ last-entered-end _ _ _ _ c.loop-d-test.false), sym (c.loop-d.invariant.4 ∙ enter-all-end _ _ _ _ c.loop-d-test.false))
+returns c = (sym (c.loop-label.invariant.2 ∙ last-entered-end _ _ _ _ c.loop-label-test.false), sym (c.loop-label.invariant.3 ∙ enter-all-end _ _ _ _ c.loop-label-test.false))

@@ -1,19 +1,23 @@
-use mathlib.Core.Path.{sym, ◌∙◌}
+use mathlib.Core.Path.{◌≡◌, sym, ◌∙◌}
 use native.Mathlib.Omega.{arith}
+use lib.ListN.{length}
 use Rattle.pool.proofs.Laws.Path.{reach-of-start, reach-end, reach-none, reach_step}
 use Rattle.pool.proofs.path.reach_of.Goals as goal
 
 pub loop-depth-init : goal.loop-depth-init
-loop-depth-init c = (omega arith, reach-of-start _ _)
+loop-depth-init c = reach-of-start _ _
 
-pub overflow_cast-key : goal.overflow_cast-key
-overflow_cast-key c = omega (arith, c.shared_slice_known-in-loop-depth-1.given c.loop-depth.depth)
-
-pub returns-then-c-eq0 : goal.returns-then-c-eq0
-returns-then-c-eq0 c = sym (c.loop-depth.invariant.1 ∙ reach-none _ _ _ _ c.loop-depth-test.true (sym c.child_at-c.ensures ∙ c.if-c-eq0.true))
+pub returns-then-child-eq0 : goal.returns-then-child-eq0
+returns-then-child-eq0 c =
+    let e = rw c.from.ensures at c.child_at-child.ensures in
+    sym (c.loop-depth.invariant ∙ reach-none _ _ _ _ c.loop-depth-test.true (sym e ∙ c.if-child-eq0.true))
 
 pub loop-depth-preserved : goal.loop-depth-preserved
-loop-depth-preserved c = (omega arith, c.loop-depth.invariant.1 ∙ reach_step _ _ _ _ c.loop-depth-test.true (λ e. c.if-c-eq0.false (c.child_at-c.ensures ∙ e)) ∙ rw c.child_at-c.ensures)
+loop-depth-preserved c =
+    let e = rw c.from.ensures at c.child_at-child.ensures in
+    c.loop-depth.invariant ∙ reach_step _ _ _ _ c.loop-depth-test.true (λ z. c.if-child-eq0.false (e ∙ z)) ∙ rw e
 
 pub returns : goal.returns
-returns c = sym (c.loop-depth.invariant.1 ∙ reach-end _ _ _ _ c.loop-depth-test.false)
+returns c =
+    let z : length c.args.key.now ≡ c.loop-depth.depth = omega arith in
+    rw z (sym (c.loop-depth.invariant ∙ reach-end _ _ _ _ c.loop-depth-test.false))

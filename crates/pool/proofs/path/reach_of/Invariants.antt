@@ -1,13 +1,9 @@
 -- `pool::path::reach_of` meets its contract. The invariant: the key reaches what its remaining bytes reach from here on.
--- The measure is the bytes that remain. Assumes nothing.
-use Prim.Native.Nat.{◌≤◌, ◌-◌}
+-- Assumes nothing.
 use mathlib.Core.Path.{◌≡◌}
-use lib.ListN.{length, drop}
+use lib.ListN.{drop}
 use Rattle.pool.specs.Path.{reach_from, reach_of}
 use Rattle.pool.proofs.path.reach_of.Given as goal
 
 abbrev pub invariant-loop-depth : goal.invariant-loop-depth
-invariant-loop-depth l = (l.depth ≤ length l.key) × (reach_of l.pool l.key ≡ reach_from l.pool l.at l.depth (drop l.depth l.key))
-
-abbrev pub decreases-loop-depth : goal.decreases-loop-depth
-decreases-loop-depth l = length l.key - l.depth
+invariant-loop-depth l = reach_of l.pool l.key ≡ reach_from l.pool l.at l.depth (drop l.depth l.key)

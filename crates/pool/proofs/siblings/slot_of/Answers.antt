@@ -1,19 +1,27 @@
-use mathlib.Core.Path.{sym, ◌∙◌}
+use Prim.Native.Nat.{◌-◌, ◌+◌}
+use mathlib.Core.Path.{◌≡◌, sym, ◌∙◌}
 use native.Mathlib.Omega.{arith}
+use Rattle.records.specs.Words.{last_record}
 use Rattle.pool.proofs.Laws.Siblings.{slot-of-start, slot-from-out, slot-from-end, slot-from-here, slot-from-step}
+use Rattle.pool.proofs.siblings.slot_of.Goals.{then-slot-eq0-via-then-slot-eq0, then-slot-eq0-via-else-slot-eq0+then-b-label_of}
 use Rattle.pool.proofs.siblings.slot_of.Goals as goal
 
-pub loop-left-init : goal.loop-left-init
-loop-left-init c = slot-of-start _ _ _ ∙ rw (c.first_child-next.ensures, c.last_record-left.ensures)
+pub loop-init : goal.loop-init
+loop-init c =
+    let z : c.last_record-end.result - 0 ≡ last_record c.args.pool.now = omega (arith, c.last_record-end.ensures) in
+    slot-of-start _ _ _ ∙ rw (z, c.first_child.ensures)
 
-pub returns-then-next-eq0 : goal.returns-then-next-eq0
-returns-then-next-eq0 c = sym (c.loop-left.invariant ∙ slot-from-end _ _ _ _ _ c.if-next-eq0.true)
+pub loop-preserved : goal.loop-preserved
+loop-preserved c =
+    let z : c.last_record-end.result - (c.loop.counter + 1) ≡ c.last_record-end.result - c.loop.counter - 1 = omega arith in
+    c.loop.invariant ∙ slot-from-step _ _ _ _ _ (omega arith) c.if-slot-eq0.false (omega (arith, c.label_of.ensures)) ∙ rw (z, c.next_sibling.ensures)
 
-pub returns-then-b-label_of : goal.returns-then-b-label_of
-returns-then-b-label_of c = sym (c.loop-left.invariant ∙ slot-from-here _ _ _ _ _ c.if-next-eq0.false (omega (arith, c.label_of.ensures)))
+pub returns-then-slot-eq0 : goal.returns-then-slot-eq0
+returns-then-slot-eq0 c =
+    sym (c.loop.invariant ∙ elim c.then-slot-eq0.branch [
+      | then-slot-eq0-via-then-slot-eq0 w ↦ slot-from-end _ _ _ _ _ w.if-slot-eq0.true
+      | then-slot-eq0-via-else-slot-eq0+then-b-label_of w ↦ slot-from-here _ _ _ _ _ w.if-slot-eq0.false (omega (arith, w.label_of.ensures))
+    ])
 
-pub loop-left-preserved : goal.loop-left-preserved
-loop-left-preserved c = c.loop-left.invariant ∙ slot-from-step _ _ _ _ _ c.loop-left-test.true c.if-next-eq0.false (omega (arith, c.label_of.ensures)) ∙ rw c.next_sibling-next.ensures
-
-pub returns : goal.returns
-returns c = sym (c.loop-left.invariant ∙ slot-from-out _ _ _ _ _ c.loop-left-test.false)
+pub returns-after-loop : goal.returns-after-loop
+returns-after-loop c = sym (c.loop.invariant ∙ slot-from-out _ _ _ _ _ (omega arith))

@@ -1,7 +1,6 @@
 -- `searches::common_prefixes::shortest` meets its contract. The invariant: the stand knows its zero, and what the walk finds is what is found from its node on. Assumes nothing.
 use mathlib.Core.Path.{◌≡◌}
 use Rattle.std.specs.Prelude.{Some}
-use Prim.Native.Nat.{◌-◌, ◌≤◌}
 use lib.ListN.{length, drop}
 use Rattle.keymap.specs.Bits.{bit}
 use Rattle.keymap.specs.Image.{bits_for}
@@ -12,9 +11,5 @@ use Rattle.searches.proofs.common_prefixes.shortest.Given as goal
 
 abbrev pub invariant-loop-depth : goal.invariant-loop-depth
 invariant-loop-depth l =
-    (l.depth ≤ length l.query)
-    × (l.s ≡ stand_at (bit l.words) (bits_for (length l.labels)) l.s.node)
+    (l.s ≡ stand_at (bit l.words) (bits_for (length l.labels)) l.s.node)
     × (shortest_from (as_image l.labels l.values l.words) l.seen l.query 0 (Some 1) ≡ shortest_from (as_image l.labels l.values l.words) l.seen (drop l.depth l.query) l.depth (Some l.s.node))
-
-abbrev pub decreases-loop-depth : goal.decreases-loop-depth
-decreases-loop-depth l = length l.query - l.depth

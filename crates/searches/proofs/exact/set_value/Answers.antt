@@ -2,59 +2,91 @@
 use mathlib.Core.Path.{◌≡◌, sym, ap, ◌∙◌}
 use Prim.Native.Nat.{ℕ, ◌-◌}
 use native.Mathlib.Omega.{arith}
-use mathlib.Core.Bool.{true}
+use mathlib.Core.Bool.{true, false}
 use lib.ListN.{set}
+use Rattle.std.specs.Prelude.{Err}
+use Rattle.std.proofs.lemmas.Result.{err_from_is_err_and}
+use Rattle.keymap.specs.declared.refusals.Refusal.{Refusal}
 use Rattle.image.specs.AcceptTest.{image_test}
 use Rattle.image.specs.Meaning.{as_image, MapImage}
+use Rattle.image.proofs.Laws.AcceptAnswer.{accepted-ok, accepted-err}
 use Rattle.image.proofs.Laws.Meaning.{tested-map_image}
 use Rattle.keymap.specs.Answers.{says_value}
 use Rattle.walks.proofs.Laws.MapWalk.{value-rule}
+use Rattle.searches.specs.Answers.{said_looked}
 use Rattle.searches.proofs.Laws.Exact.{Found, keyed-found, keyed-missed, found_inside, found-key, exact_says-refused, exact_says-accepted, set_values-refused, set_values-absent, set_values-present}
-use Rattle.searches.proofs.exact.set_value.Goals.{Else-not-is_image, In-Some}
+use Rattle.searches.proofs.exact.set_value.Goals.{In_ok-accept, In-Some, After-from_residual}
 use Rattle.searches.proofs.exact.set_value.Goals as goal
 
-pub returns-then-not-is_image : goal.returns-then-not-is_image
-returns-then-not-is_image c =
-    let i = as_image c.args.labels.now c.args.values.now c.args.words.now in
-    let q = c.args.query.now in
-    let refused = sym c.is_image.ensures ∙ c.if-not-is_image.true in record { answer = sym (exact_says-refused i q refused); written = sym (set_values-refused i q refused c.args.value) }
+-- where the test fails, that is passed on
+refused : (c : After-from_residual)
+    → (image_test (as_image c.args.labels.now c.args.values.now c.args.words.now) ≡ false) × (c.from_residual.result ≡ Err Refusal.NotAnImage)
+refused c =
+    let (fails, number) = accepted-err _ _ (sym c.accept.ensures.tested ∙ c.in_err-accept.was) in
+    let passed = err_from_is_err_and c.from_residual.result c.from_residual.ensures.1 in
+    (fails, passed.1 ∙ ap Err (passed.2 ∙ number))
+
+pub returns-in_err-accept-clause-answer : goal.returns-in_err-accept-clause-answer
+returns-in_err-accept-clause-answer c =
+    let (fails, six) = refused c in
+    ap said_looked six ∙ sym (exact_says-refused (as_image c.args.labels.now c.args.values.now c.args.words.now) c.args.query.now fails)
+
+pub returns-in_err-accept-clause-written : goal.returns-in_err-accept-clause-written
+returns-in_err-accept-clause-written c =
+    sym (set_values-refused (as_image c.args.labels.now c.args.values.now c.args.words.now) c.args.query.now (refused c).0 c.args.value)
 
 -- past the test the image is a map's
-tested : (c : Else-not-is_image) → image_test (as_image c.args.labels.now c.args.values.now c.args.words.now) ≡ true
-tested c = sym c.is_image.ensures ∙ c.if-not-is_image.false
+tested : (c : In_ok-accept) → image_test (as_image c.args.labels.now c.args.values.now c.args.words.now) ≡ true
+tested c = accepted-ok _ _ (sym c.accept.ensures.tested ∙ c.in_ok-accept.was)
 
-whole : (c : Else-not-is_image) → MapImage (as_image c.args.labels.now c.args.values.now c.args.words.now)
+whole : (c : In_ok-accept) → MapImage (as_image c.args.labels.now c.args.values.now c.args.words.now)
 whole c =
     tested-map_image (as_image c.args.labels.now c.args.values.now c.args.words.now)
     (record { words-wide = λ w. (c.type_inv.words w).fits; values-wide = λ e. (c.slice_known-1.given e).fits })
     (tested c)
 
-pub returns-in_default : goal.returns-in_default
-returns-in_default c =
+pub returns-in_default-clause-answer : goal.returns-in_default-clause-answer
+returns-in_default-clause-answer c =
     let i = as_image c.args.labels.now c.args.values.now c.args.words.now in
     let q = c.args.query.now in
-    let accepted = tested (goal.at.returns-in_default c).Else-not-is_image in
-    let absent = sym (value-rule i (whole (goal.at.returns-in_default c).Else-not-is_image) q) ∙ keyed-missed i q (sym c.find.ensures ∙ c.in_default.is) in record { answer = sym (exact_says-accepted i q accepted ∙ ap says_value absent); written = sym (set_values-absent i q accepted c.args.value absent) }
+    let at = (goal.at.returns-in_default-clause-answer c).In_ok-accept in
+    sym (exact_says-accepted i q (tested at) ∙ ap says_value (sym (value-rule i (whole at) q) ∙ keyed-missed i q (sym c.find.ensures ∙ c.in_default.is)))
+
+pub returns-in_default-clause-written : goal.returns-in_default-clause-written
+returns-in_default-clause-written c =
+    let i = as_image c.args.labels.now c.args.values.now c.args.words.now in
+    let q = c.args.query.now in
+    let at = (goal.at.returns-in_default-clause-written c).In_ok-accept in
+    sym (set_values-absent i q (tested at) c.args.value (sym (value-rule i (whole at) q) ∙ keyed-missed i q (sym c.find.ensures ∙ c.in_default.is)))
 
 -- the key that was found
 found : (c : In-Some)
     →
-    Found (as_image c.args.labels.now c.args.values.now c.args.words.now) c.args.query.now c.in-Some.node c.in-Some.old
+    Found (as_image c.args.labels.now c.args.values.now c.args.words.now) c.args.query.now c.in-Some.key.node c.in-Some.key.value
 found c = keyed-found _ _ _ _ (sym c.find.ensures ∙ c.in-Some.is)
 
 pub overflow_sub-values : goal.overflow_sub-values
-overflow_sub-values c = omega (arith, found_inside _ _ _ _ (found c))
+overflow_sub-values c = omega (arith, found_inside _ _ _ _ (found (goal.at.overflow_sub-values c).In-Some))
 
-pub offset_bounds-values-node : goal.offset_bounds-values-node
-offset_bounds-values-node c = omega (arith, found_inside _ _ _ _ (found c))
+pub offset_bounds-values-key : goal.offset_bounds-values-key
+offset_bounds-values-key c = omega (arith, found_inside _ _ _ _ (found (goal.at.offset_bounds-values-key c).In-Some))
 
-pub bounds-values-node : goal.bounds-values-node
-bounds-values-node c = omega (arith, found_inside _ _ _ _ (found c))
+pub bounds-values-key : goal.bounds-values-key
+bounds-values-key c = omega (arith, found_inside _ _ _ _ (found (goal.at.bounds-values-key c).In-Some))
 
-pub returns : goal.returns
-returns c =
+pub returns-clause-answer : goal.returns-clause-answer
+returns-clause-answer c =
+    let i = as_image c.args.labels.now c.args.values.now c.args.words.now in
+    let q = c.args.query.now in
+    let at = (goal.at.returns-clause-answer c).In_ok-accept in
+    let (number, held) = found-key i (whole at) q _ _ (found (goal.at.returns-clause-answer c).In-Some) in
+    sym (exact_says-accepted i q (tested at) ∙ ap says_value held)
+
+pub returns-clause-written : goal.returns-clause-written
+returns-clause-written c =
     let i = as_image c.args.labels.now c.args.values.now c.args.words.now in
     let q = c.args.query.now in
     let v = c.args.value in
-    let accepted = tested (goal.at.returns c).Else-not-is_image in
-    let (number, held) = found-key i (whole (goal.at.returns c).Else-not-is_image) q _ _ (found c) in record { answer = sym (exact_says-accepted i q accepted ∙ ap says_value held); written = ap (λ (k : ℕ). set c.args.values.now (k - 2) v) number ∙ sym (set_values-present i q accepted v _ held) }
+    let at = (goal.at.returns-clause-written c).In_ok-accept in
+    let (number, held) = found-key i (whole at) q _ _ (found (goal.at.returns-clause-written c).In-Some) in
+    ap (λ (k : ℕ). set c.args.values.now (k - 2) v) number ∙ sym (set_values-present i q (tested at) v _ held)

@@ -4,7 +4,6 @@ use mathlib.Core.Bool.{true}
 use Rattle.keymap.specs.Answers.{says_value}
 use Rattle.image.specs.AcceptTest.{lengths_fit}
 use Rattle.image.specs.Meaning.{image_in}
-use Rattle.searches.proofs.Laws.Exact.{keyed-found, keyed-missed}
 use Rattle.searches.proofs.Laws.Untested.{untested_says-refused, untested_says-found}
 use Rattle.searches.proofs.untested.exact_match_untested.Goals.{Else-not-lengths_fit}
 use Rattle.searches.proofs.untested.exact_match_untested.Goals as goal
@@ -16,16 +15,7 @@ returns-then-not-lengths_fit c = record { answer = sym (untested_says-refused (i
 tested : (c : Else-not-lengths_fit) → lengths_fit (image_in c.args.labels c.args.values c.args.words) ≡ true
 tested c = sym c.lengths_fit.ensures ∙ c.if-not-lengths_fit.false
 
-pub returns-in_default : goal.returns-in_default
-returns-in_default c =
-    let i = image_in c.args.labels c.args.values c.args.words in
-    let q = c.args.query.now in
-    let absent = keyed-missed i q (sym c.find.ensures ∙ c.in_default.is) in
-    record { answer = sym (untested_says-found i q (tested (goal.at.returns-in_default c).Else-not-lengths_fit) ∙ ap says_value absent) }
-
 pub returns : goal.returns
 returns c =
     let i = image_in c.args.labels c.args.values c.args.words in
-    let q = c.args.query.now in
-    let held = (keyed-found i q _ _ (sym c.find.ensures ∙ c.in-Some.is)).value in
-    record { answer = sym (untested_says-found i q (tested (goal.at.returns c).Else-not-lengths_fit) ∙ ap says_value held) }
+    record { answer = ap says_value c.value_of.ensures ∙ sym (untested_says-found i c.args.query.now (tested (goal.at.returns c).Else-not-lengths_fit)) }

@@ -138,10 +138,11 @@ fn build_anew(rt: &impl Print, case: Case, pool: &[u32]) {
     );
 }
 
+// What a push or a reset answers is passed over: the build behind them shows what they left.
 fn push(case: Case, pool: &mut [u32]) {
     let mut space = [0u8; LONGEST];
     let n = case.key(&mut space);
-    pool::push(pool, &space[..n], case.number);
+    let _ = pool::push(pool, &space[..n], case.number);
 }
 
 // A case, with as many words of the memory as are the pool; how many are from then on.
@@ -154,7 +155,7 @@ fn answer(rt: &impl Print, case: Case, memory: &mut [u32], words: usize) -> usiz
     let p = size.min(memory.len());
     match case.letter {
         b'n' => {
-            pool::reset(&mut memory[..p]);
+            let _ = pool::reset(&mut memory[..p]);
         }
         b'p' => push(case, &mut memory[..p]),
         b'w' => store(memory, n, case.digits),

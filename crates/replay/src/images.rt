@@ -2,7 +2,9 @@
 use crate::entries::{hex, store_last};
 use crate::memory::{LentImage, Memory};
 use crate::parts::part;
-use crate::printing::{ACCEPTED, LABELS, SCRATCH, VALUES, WORDS, accepted, done, number, show, text};
+use crate::printing::{
+    ACCEPTED, LABELS, SCRATCH, VALUES, WORDS, accepted, done, number, show, text,
+};
 use crate::text::{Case, lengths};
 
 // A build into as much of each buffer as the digits say, or into all of it where there are none. What was built is lent

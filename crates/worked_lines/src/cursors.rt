@@ -64,11 +64,7 @@ fn listing(rt: &impl Print, image: LentImage, first: Cursor) -> Cursor {
     cursor
 }
 
-fn list(
-    rt: &impl Print,
-    image: LentImage,
-    answer: Result<Cursor, Refusal>,
-) -> Option<Cursor> {
+fn list(rt: &impl Print, image: LentImage, answer: Result<Cursor, Refusal>) -> Option<Cursor> {
     let first = accepted(rt, answer)?;
     Some(listing(rt, image, first))
 }

@@ -8,18 +8,18 @@ use replay::printing::{BAR, NO, NONE, YES, accepted, byte, bytes, found, number,
 use replay::text::Case;
 use trie::Common;
 
-fn untested(image: LentImage, query: &[u8]) -> Result<Option<u32>, u32> {
-    found(trie::exact_match_untested(image.labels, image.values, image.words, query))
+fn untested(image: LentImage, query: &[u8]) -> Result<Option<u32>, Refusal> {
+    trie::exact_match_untested(image.labels, image.values, image.words, query)
 }
 
 // The exact match, and behind it what the lookup that does not test the image tells, if that is another answer of an
 // image that is accepted.
 fn exact(rt: &impl Print, image: LentImage, query: &[u8]) {
-    let tested = found(trie::exact_match(image.labels, image.values, image.words, query));
-    say(rt, tested);
+    let tested = trie::exact_match(image.labels, image.values, image.words, query);
+    found(rt, tested);
     let other = untested(image, query);
     if tested.is_ok() && other != tested {
-        say(rt, other);
+        found(rt, other);
     }
 }
 

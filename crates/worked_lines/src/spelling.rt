@@ -5,8 +5,8 @@ use replay::memory::{LONGEST, LentImage};
 use replay::parts::part;
 use replay::printing::{bytes, found};
 use replay::text::Case;
-use trie::place::Place;
 use trie::Cursor;
+use trie::place::Place;
 
 // How many bytes were written into the buffer.
 fn written(rt: &impl Print, answer: Result<Option<usize>, Refusal>) -> usize {

@@ -3,7 +3,7 @@
 #![tactic(auto)]
 
 use keymap::Refusal;
-use trie::Step;
+use trie::Stepped;
 
 // The records besides the root.
 const CAPACITY: usize = 24;
@@ -47,7 +47,7 @@ fn list(
     let mut key = [0u8; CAPACITY];
     let mut cursor = trie::predictive_search(labels, values, words, query)?;
     for _ in 0..labels.len() {
-        let Step::Gave {
+        let Stepped::Gave {
             node: _,
             value,
             next,

@@ -6,7 +6,7 @@ use replay::memory::{LONGEST, LentImage};
 use replay::parts::part;
 use replay::printing::{BAR, END, FINISHED, LAST, TOP, accepted, number, text};
 use replay::text::Case;
-use trie::{Cursor, Kind, Step};
+use trie::{Cursor, Kind, Stepped};
 
 // The most steps of a listing: one for each of 4,096 nodes, and two ends.
 const STEPS: u32 = 4098;
@@ -33,12 +33,12 @@ fn step(rt: &impl Print, image: LentImage, cursor: Cursor) -> Option<Cursor> {
         rt,
         trie::step(image.labels, image.values, image.words, cursor),
     )? {
-        Step::Gave { node, value, next } => {
+        Stepped::Gave { node, value, next } => {
             number(rt, node);
             number(rt, value);
             Some(next)
         }
-        Step::End { next } => {
+        Stepped::End { next } => {
             text(rt, END);
             Some(next)
         }

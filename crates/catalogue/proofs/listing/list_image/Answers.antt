@@ -33,7 +33,7 @@ returns-in_default c =
 
 pub loop-value-init : goal.loop-value-init
 loop-value-init c =
-    (refl, listing-starts (image_in c.args.labels c.args.values c.args.words) c.requires.of_map c.args.out.now c.in-Some.start (ap said_started (sym c.in-Some.is) ∙ c.predictive_search.ensures.answer))
+    (refl, listing-starts (image_in c.args.labels c.args.values c.args.words) c.requires.of_map c.args.out.now c.in-At.start (ap said_started (sym c.in-At.is) ∙ c.predictive_search.ensures.answer))
 
 pub step-requires : goal.step-requires
 step-requires c = tt

@@ -10,7 +10,7 @@
 
 ghost use Rattle.std.specs.Prelude.{◌≤◌, length};
 
-use image::answers::Built;
+use keymap::Refusal;
 use replay::entries::store;
 use replay::lists::read_list;
 use replay::memory::{LONGEST, LentImage};
@@ -28,9 +28,14 @@ const ENTRIES: usize = 4096;
 
 const WORDS: usize = 129;
 
-fn built(rt: &impl Print, answer: Built) {
-    number(rt, answer.number());
-    if let Built::Nodes(n) = answer {
+// The number of a refusal, 0 where there is none.
+fn status<T: Drop>(answer: Result<T, Refusal>) -> u32 {
+    answer.err().map_or(0, |refusal| refusal.number())
+}
+
+fn built(rt: &impl Print, answer: Result<u32, Refusal>) {
+    number(rt, status(answer));
+    if let Ok(n) = answer {
         number(rt, n);
     }
 }
@@ -71,8 +76,10 @@ fn told(rt: &impl Print, letter: u8, image: LentImage, scratch: &[u32]) {
         show_all(rt, image, scratch);
     }
     text(rt, BAR);
-    let accepted = image::accept(image.labels, image.values, image.words);
-    number(rt, accepted.err().map_or(0, |refusal| refusal.number()));
+    number(
+        rt,
+        status(image::accept(image.labels, image.values, image.words)),
+    );
     byte(rt, b'\n');
 }
 
@@ -131,10 +138,11 @@ fn build_anew(rt: &impl Print, case: Case, pool: &[u32]) {
     );
 }
 
+// What a push or a reset answers is passed over: the build behind them shows what they left.
 fn push(case: Case, pool: &mut [u32]) {
     let mut space = [0u8; LONGEST];
     let n = case.key(&mut space);
-    pool::push(pool, &space[..n], case.number);
+    let _ = pool::push(pool, &space[..n], case.number);
 }
 
 // A case, with as many words of the memory as are the pool; how many are from then on.
@@ -147,7 +155,7 @@ fn answer(rt: &impl Print, case: Case, memory: &mut [u32], words: usize) -> usiz
     let p = size.min(memory.len());
     match case.letter {
         b'n' => {
-            pool::reset(&mut memory[..p]);
+            let _ = pool::reset(&mut memory[..p]);
         }
         b'p' => push(case, &mut memory[..p]),
         b'w' => store(memory, n, case.digits),

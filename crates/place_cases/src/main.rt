@@ -11,10 +11,8 @@ ghost use Rattle.std.specs.Prelude.{◌≡◌, drop};
 ghost use Rattle.replay.specs.Memory.{meant_image};
 ghost use Rattle.places.specs.Incremental.{place_at, QueryPromise, FollowPromise, GotoPromise};
 
-use places::{
-    Answer, FollowMove, Followed, Gone, GotoMove, Place, Queried, QueryMove, goto_longest_prefix,
-    query, query_until,
-};
+use keymap::Refusal;
+use places::{Answer, Moved, Place, goto_longest_prefix, query, query_until};
 use replay::entries::{hex, store};
 use replay::lists::read_list;
 use replay::memory::LentImage;
@@ -38,36 +36,36 @@ const LABEL: usize = 74;
 const TYPED: usize = 80;
 
 // Lends a place at a node to `query`.
-fn query_from(image: LentImage, node: u32, label: u8) -> QueryMove
+fn query_from(image: LentImage, node: u32, label: u8) -> Moved<Option<Answer>>
     ensures { QueryPromise (meant_image image.entry) label (place_at node) result.answer (place_at result.node) }
 {
     let mut place = Place { node };
     let answer = query(image.labels, image.values, image.words, &mut place, label);
-    QueryMove {
+    Moved {
         answer,
         node: place.node,
     }
 }
 
 // Lends a place at a node to `query_until`.
-fn query_until_from(image: LentImage, node: u32, text: &[u8]) -> FollowMove
+fn query_until_from(image: LentImage, node: u32, text: &[u8]) -> Moved<Result<Answer, usize>>
     ensures { FollowPromise (meant_image image.entry) text.now (place_at node) result.answer (place_at result.node) }
 {
     let mut place = Place { node };
     let answer = query_until(image.labels, image.values, image.words, &mut place, text);
-    FollowMove {
+    Moved {
         answer,
         node: place.node,
     }
 }
 
 // Lends a place at a node to `goto_longest_prefix`.
-fn goto_from(image: LentImage, node: u32) -> GotoMove
+fn goto_from(image: LentImage, node: u32) -> Moved<Result<usize, usize>>
     ensures { GotoPromise (meant_image image.entry) (place_at node) result.answer (place_at result.node) }
 {
     let mut place = Place { node };
     let answer = goto_longest_prefix(image.labels, image.values, image.words, &mut place);
-    GotoMove {
+    Moved {
         answer,
         node: place.node,
     }
@@ -82,55 +80,62 @@ fn tell(rt: &impl Print, answer: Answer) {
     }
 }
 
-// What each move answers, and the place afterwards.
-fn queried(rt: &impl Print, moved: QueryMove) -> u32 {
-    let answer = moved.answer;
+// What each move answers.
+fn queried(rt: &impl Print, answer: Result<Option<Answer>, Refusal>) {
     match answer {
-        Queried::Found(found) => tell(rt, found),
-        Queried::NoMatch => text(rt, b" no match"),
-        _ => number(rt, answer.number()),
+        Ok(Some(found)) => tell(rt, found),
+        Ok(None) => text(rt, b" no match"),
+        Err(refusal) => number(rt, refusal.number()),
     }
-    moved.node
 }
 
-fn followed(rt: &impl Print, moved: FollowMove) -> u32 {
-    let answer = moved.answer;
+fn followed(rt: &impl Print, answer: Result<Result<Answer, usize>, Refusal>) {
     match answer {
-        Followed::Ok(found) => {
+        Ok(Ok(found)) => {
             text(rt, b" Ok");
             tell(rt, found);
         }
-        Followed::Err(index) => {
+        Ok(Err(index)) => {
             text(rt, b" Err");
             number(rt, index);
         }
-        _ => number(rt, answer.number()),
+        Err(refusal) => number(rt, refusal.number()),
     }
-    moved.node
 }
 
-fn gone(rt: &impl Print, moved: GotoMove) -> u32 {
-    let answer = moved.answer;
+fn gone(rt: &impl Print, answer: Result<Result<usize, usize>, Refusal>) {
     match answer {
-        Gone::Ok(distance) => {
+        Ok(Ok(distance)) => {
             text(rt, b" Ok");
             number(rt, distance);
         }
-        Gone::Err(distance) => {
+        Ok(Err(distance)) => {
             text(rt, b" Err");
             number(rt, distance);
         }
-        _ => number(rt, answer.number()),
+        Err(refusal) => number(rt, refusal.number()),
     }
-    moved.node
 }
 
+// Makes the move that a line says, and answers the place afterwards.
 fn answer(rt: &impl Print, case: Case, image: LentImage) -> u32 {
     let node = case.number;
     match case.letter {
-        b'q' => queried(rt, query_from(image, node, letter(rest(case.line, LABEL)))),
-        b'u' => followed(rt, query_until_from(image, node, rest(case.line, TYPED))),
-        _ => gone(rt, goto_from(image, node)),
+        b'q' => {
+            let moved = query_from(image, node, letter(rest(case.line, LABEL)));
+            queried(rt, moved.answer);
+            moved.node
+        }
+        b'u' => {
+            let moved = query_until_from(image, node, rest(case.line, TYPED));
+            followed(rt, moved.answer);
+            moved.node
+        }
+        _ => {
+            let moved = goto_from(image, node);
+            gone(rt, moved.answer);
+            moved.node
+        }
     }
 }
 

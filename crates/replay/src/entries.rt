@@ -1,7 +1,7 @@
 // The entries of the lent memory and the bytes of keys: what digits spell, and storing it.
 ghost use Rattle.std.specs.Prelude.{◌≡◌, ◌<◌, ◌≤◌, length, take};
 
-// The value of a digit; of any other byte, no matter what.
+// The value of a digit; of any other byte, no matter what, where `char::to_digit` has none to shift in.
 fn digit(glyph: u8) -> u64 {
     match glyph {
         b'a'.. => (glyph - 87) as u64,

@@ -3,24 +3,9 @@ use crate::entries::{hex, store_last};
 use crate::memory::{LentImage, Memory};
 use crate::parts::part;
 use crate::printing::{
-    ACCEPTED, LABELS, SCRATCH, VALUES, WORDS, done, number, refused, show, text,
+    ACCEPTED, LABELS, SCRATCH, VALUES, WORDS, accepted, done, number, show, text,
 };
 use crate::text::{Case, lengths};
-use image::answers::Built;
-
-// How many nodes were built; none where build refused.
-fn built(rt: &impl Print, answer: Built) -> Option<u32> {
-    match answer {
-        Built::Nodes(n) => {
-            number(rt, n);
-            Some(n)
-        }
-        _ => {
-            refused(rt, answer.number());
-            None
-        }
-    }
-}
 
 // A build into as much of each buffer as the digits say, or into all of it where there are none. What was built is lent
 // from then on; of a refusal, nothing.
@@ -46,7 +31,8 @@ fn build(rt: &impl Print, digits: &[u8], memory: &mut Memory) {
         &mut words[..c],
         &mut scratch[..d],
     );
-    if let Some(nodes) = built(rt, answer) {
+    if let Some(nodes) = accepted(rt, answer) {
+        number(rt, nodes);
         memory.lent.labels = nodes as usize;
         memory.lent.values = nodes as usize;
         memory.lent.words = image::words_for(nodes);
@@ -109,9 +95,7 @@ pub fn look(rt: &impl Print, letter: u8, image: LentImage) {
         b'A' => done(
             rt,
             ACCEPTED,
-            image::accept(image.labels, image.values, image.words)
-                .err()
-                .map_or(0, |refusal| refusal.number()),
+            image::accept(image.labels, image.values, image.words),
         ),
         _ => (),
     }

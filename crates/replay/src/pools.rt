@@ -2,23 +2,17 @@
 use crate::entries::{Entry, hex, store};
 use crate::memory::{LONGEST, Memory};
 use crate::parts::part;
-use crate::printing::{DONE, done, number, refused, show};
+use crate::printing::{DONE, done, found, number, show};
 use crate::text::Case;
-use pool::answers::Counted;
-
-fn counted(rt: &impl Print, answer: Counted) {
-    match answer {
-        Counted::Records(n) => number(rt, n),
-        _ => refused(rt, answer.number()),
-    }
-}
 
 // The calls on the pool that is lent.
 fn call(rt: &impl Print, case: Case, key: &[u8], pool: &mut [u32]) {
     match case.letter {
-        b'n' => done(rt, DONE, pool::reset(pool).number()),
-        b'p' | b'Q' => done(rt, DONE, pool::push(pool, key, case.number).number()),
-        b'u' => counted(rt, pool::use_count(pool)),
+        b'n' => done(rt, DONE, pool::reset(pool)),
+        b'p' | b'Q' => done(rt, DONE, pool::push(pool, key, case.number)),
+        b'u' => {
+            found(rt, pool::use_count(pool).map(Some));
+        }
         _ => (),
     }
 }

@@ -1,6 +1,10 @@
 // What an answer is written with: words, numbers in decimal and bytes in hexadecimal, each with a space before it.
 // A write that fails is passed over: what comes behind it is written all the same.
+ghost use Rattle.std.specs.Prelude.{◌≡◌, None, MatchOption};
+ghost use Rattle.std.specs.Result.{result_ok};
+
 use crate::text::Case;
+use keymap::Refusal;
 use std::fmt::Display;
 
 pub const REFUSED: &[u8] = b" refused";
@@ -63,9 +67,38 @@ pub fn show<T: Display>(rt: &impl Print, all: &[T]) {
     }
 }
 
-pub fn refused(rt: &impl Print, refusal: u32) {
+pub fn refused(rt: &impl Print, refusal: Refusal) {
     text(rt, REFUSED);
-    number(rt, refusal);
+    number(rt, refusal.number());
+}
+
+// What a call answered; a refusal is written instead.
+pub fn accepted<T>(rt: &impl Print, answer: Result<T, Refusal>) -> Option<T>
+    ensures { result ≡ result_ok answer }
+{
+    match answer {
+        Ok(value) => Some(value),
+        Err(refusal) => {
+            refused(rt, refusal);
+            None
+        }
+    }
+}
+
+// Writes the number that a call found, or `none`, and answers it.
+pub fn found<N: Display + Copy>(rt: &impl Print, answer: Result<Option<N>, Refusal>) -> Option<N>
+    ensures { MatchOption (result_ok answer) (result ≡ None) (λ found. result ≡ found) }
+{
+    match accepted(rt, answer)? {
+        Some(n) => {
+            number(rt, n);
+            Some(n)
+        }
+        None => {
+            text(rt, NONE);
+            None
+        }
+    }
 }
 
 // What begins an answer: the letter of the case. A title is written as it stands.
@@ -77,12 +110,10 @@ pub fn head(rt: &impl Print, case: Case) {
     }
 }
 
-// The word, or a refusal by its number.
-pub fn done(rt: &impl Print, word: &[u8], refusal: u32) {
-    if refusal == 0 {
+// The word of a call that is done.
+pub fn done(rt: &impl Print, word: &[u8], answer: Result<(), Refusal>) {
+    if accepted(rt, answer).is_some() {
         text(rt, word);
-    } else {
-        refused(rt, refusal);
     }
 }
 

@@ -1,11 +1,12 @@
 // The cases of listings. The cursor is handed in and the one to go on with handed back.
 use crate::spelling::key;
+use keymap::Refusal;
 use replay::entries::{Entry, hex};
 use replay::memory::{LONGEST, LentImage};
 use replay::parts::part;
-use replay::printing::{BAR, END, FINISHED, LAST, TOP, number, refused, text};
+use replay::printing::{BAR, END, FINISHED, LAST, TOP, accepted, number, text};
 use replay::text::Case;
-use trie::{Cursor, Kind, Started, Stepped};
+use trie::{Cursor, Kind, Stepped};
 
 // The most steps of a listing: one for each of 4,096 nodes, and two ends.
 const STEPS: u32 = 4098;
@@ -28,8 +29,10 @@ fn tell(rt: &impl Print, cursor: Cursor) {
 
 // The cursor to go on with, none where the step is refused.
 fn step(rt: &impl Print, image: LentImage, cursor: Cursor) -> Option<Cursor> {
-    let answer = trie::step(image.labels, image.values, image.words, cursor);
-    match answer {
+    match accepted(
+        rt,
+        trie::step(image.labels, image.values, image.words, cursor),
+    )? {
         Stepped::Gave { node, value, next } => {
             number(rt, node);
             number(rt, value);
@@ -38,21 +41,6 @@ fn step(rt: &impl Print, image: LentImage, cursor: Cursor) -> Option<Cursor> {
         Stepped::End { next } => {
             text(rt, END);
             Some(next)
-        }
-        _ => {
-            refused(rt, answer.number());
-            None
-        }
-    }
-}
-
-// The first cursor, none where the search is refused.
-fn started(rt: &impl Print, answer: Started) -> Option<Cursor> {
-    match answer {
-        Started::At(first) => Some(first),
-        _ => {
-            refused(rt, answer.number());
-            None
         }
     }
 }
@@ -76,8 +64,8 @@ fn listing(rt: &impl Print, image: LentImage, first: Cursor) -> Cursor {
     cursor
 }
 
-fn list(rt: &impl Print, image: LentImage, answer: Started) -> Option<Cursor> {
-    let first = started(rt, answer)?;
+fn list(rt: &impl Print, image: LentImage, answer: Result<Cursor, Refusal>) -> Option<Cursor> {
+    let first = accepted(rt, answer)?;
     Some(listing(rt, image, first))
 }
 

@@ -1,9 +1,10 @@
 // The cases of incremental searches. The place is handed in, and where it is left handed back.
 use crate::spelling::path;
+use keymap::Refusal;
 use replay::memory::{LONGEST, LentImage};
-use replay::printing::{AT, BOTH, ERR, MATCH, NONE, OK, PREFIX, number, refused, text};
+use replay::printing::{AT, BOTH, ERR, MATCH, NONE, OK, PREFIX, accepted, found, number, text};
 use replay::text::Case;
-use trie::place::{Answer, Followed, Gone, Measured, Place, Queried, Resumed, Valued};
+use trie::place::{Answer, Place};
 
 fn at(rt: &impl Print, place: Place) {
     text(rt, AT);
@@ -19,82 +20,65 @@ fn tell(rt: &impl Print, answer: Answer) {
 }
 
 // The place at a node's number; a refusal leaves the one that was.
-fn resumed(rt: &impl Print, answer: Resumed, here: Place) -> Place {
-    match answer {
-        Resumed::At(place) => {
-            at(rt, place);
-            place
-        }
-        _ => {
-            refused(rt, answer.number());
-            here
-        }
-    }
+fn resumed(rt: &impl Print, answer: Result<Place, Refusal>, here: Place) -> Place {
+    let Some(place) = accepted(rt, answer) else {
+        return here;
+    };
+    at(rt, place);
+    place
 }
 
 // The answer to a label, and the place after it.
-fn queried(rt: &impl Print, answer: Queried, place: Place) {
-    match answer {
-        Queried::Found(found) => tell(rt, found),
-        Queried::NoMatch => text(rt, NONE),
-        _ => {
-            refused(rt, answer.number());
-            return;
-        }
+fn queried(rt: &impl Print, answer: Result<Option<Answer>, Refusal>, place: Place) {
+    let Some(found) = accepted(rt, answer) else {
+        return;
+    };
+    match found {
+        Some(answer) => tell(rt, answer),
+        None => text(rt, NONE),
     }
     at(rt, place);
 }
 
-fn followed(rt: &impl Print, answer: Followed, place: Place) {
-    match answer {
-        Followed::Ok(found) => tell(rt, found),
-        Followed::Err(index) => {
+// The answer to a query, or the index where it failed, and the place after it.
+fn followed(rt: &impl Print, answer: Result<Result<Answer, usize>, Refusal>, place: Place) {
+    let Some(found) = accepted(rt, answer) else {
+        return;
+    };
+    match found {
+        Ok(answer) => tell(rt, answer),
+        Err(index) => {
             text(rt, ERR);
             number(rt, index);
         }
-        _ => {
-            refused(rt, answer.number());
-            return;
-        }
     }
     at(rt, place);
 }
 
-fn gone(rt: &impl Print, answer: Gone, place: Place) {
-    match answer {
-        Gone::Ok(distance) => {
+// How far a place moved, to a key or not, and the place after it.
+fn gone(rt: &impl Print, answer: Result<Result<usize, usize>, Refusal>, place: Place) {
+    let Some(found) = accepted(rt, answer) else {
+        return;
+    };
+    match found {
+        Ok(distance) => {
             text(rt, OK);
             number(rt, distance);
         }
-        Gone::Err(distance) => {
+        Err(distance) => {
             text(rt, ERR);
             number(rt, distance);
         }
-        _ => {
-            refused(rt, answer.number());
-            return;
-        }
     }
     at(rt, place);
-}
-
-fn valued(rt: &impl Print, answer: Valued) {
-    match answer {
-        Valued::Value(found) => number(rt, found),
-        Valued::NoValue => text(rt, NONE),
-        _ => refused(rt, answer.number()),
-    }
 }
 
 // The length of the path, then the path.
 fn whole_prefix(rt: &impl Print, image: LentImage, place: Place) {
     let answer = trie::place::prefix_len(image.labels, image.values, image.words, place);
-    match answer {
-        Measured::Length(length) => {
-            number(rt, length);
-            path(rt, image, place, LONGEST);
-        }
-        _ => refused(rt, answer.number()),
+    if let Some(length) = accepted(rt, answer) {
+        number(rt, length);
+        path(rt, image, place, LONGEST);
     }
 }
 
@@ -116,7 +100,7 @@ pub fn answer(rt: &impl Print, case: Case, query: &[u8], image: LentImage, place
             place
         }
         b'v' => {
-            valued(rt, trie::place::value(labels, values, words, place));
+            found(rt, trie::place::value(labels, values, words, place));
             place
         }
         b'x' => {

@@ -1,46 +1,30 @@
 // The cases of the searches with a query, over the image that is lent.
 ghost use Rattle.std.specs.Prelude.{◌≤◌};
 
+use keymap::Refusal;
 use replay::memory::{LentImage, Memory};
 use replay::parts::part;
-use replay::printing::{BAR, NO, NONE, YES, byte, bytes, number, refused, text};
+use replay::printing::{BAR, NO, NONE, YES, accepted, byte, bytes, found, number, text};
 use replay::text::Case;
-use trie::{Common, Looked, Prefixed};
+use trie::Common;
 
-// The value that was found, or none; of a refusal, its number.
-fn found(answer: Looked) -> Result<Option<u32>, u32> {
-    match answer {
-        Looked::Value(value) => Ok(Some(value)),
-        Looked::NoMatch => Ok(None),
-        Looked::NotAnImage => Err(answer.number()),
-    }
-}
-
-fn say(rt: &impl Print, answer: Result<Option<u32>, u32>) {
-    match answer {
-        Ok(Some(value)) => number(rt, value),
-        Ok(None) => text(rt, NONE),
-        Err(refusal) => refused(rt, refusal),
-    }
-}
-
-fn untested(image: LentImage, query: &[u8]) -> Result<Option<u32>, u32> {
-    found(trie::exact_match_untested(image.labels, image.values, image.words, query))
+fn untested(image: LentImage, query: &[u8]) -> Result<Option<u32>, Refusal> {
+    trie::exact_match_untested(image.labels, image.values, image.words, query)
 }
 
 // The exact match, and behind it what the lookup that does not test the image tells, if that is another answer of an
 // image that is accepted.
 fn exact(rt: &impl Print, image: LentImage, query: &[u8]) {
-    let tested = found(trie::exact_match(image.labels, image.values, image.words, query));
-    say(rt, tested);
+    let tested = trie::exact_match(image.labels, image.values, image.words, query);
+    found(rt, tested);
     let other = untested(image, query);
     if tested.is_ok() && other != tested {
-        say(rt, other);
+        found(rt, other);
     }
 }
 
 // A digit, a point for no match, and an `x` for anything else.
-fn figure(answer: Result<Option<u32>, u32>) -> u8 {
+fn figure(answer: Result<Option<u32>, Refusal>) -> u8 {
     match answer {
         Ok(Some(value)) if value < 10 => b'0' + value as u8,
         Ok(None) => b'.',
@@ -73,28 +57,23 @@ fn table(rt: &impl Print, image: LentImage, bits: u32) {
     }
 }
 
-fn prefixed(rt: &impl Print, answer: Prefixed) {
-    match answer {
-        Prefixed::Yes => text(rt, YES),
-        Prefixed::No => text(rt, NO),
-        _ => refused(rt, answer.number()),
+fn is_prefix(rt: &impl Print, image: LentImage, query: &[u8]) {
+    let answer = trie::is_prefix(image.labels, image.values, image.words, query);
+    if let Some(longer) = accepted(rt, answer) {
+        text(rt, if longer { YES } else { NO });
     }
 }
 
 // What is written of a common prefix, and how long it is.
-fn common(rt: &impl Print, answer: Common) -> Option<usize> {
-    match answer {
-        Common::Match { length, value } => {
+fn common(rt: &impl Print, answer: Result<Option<Common>, Refusal>) -> Option<usize> {
+    match accepted(rt, answer)? {
+        Some(Common { length, value }) => {
             number(rt, length);
             number(rt, value);
             Some(length)
         }
-        Common::NoMatch => {
+        None => {
             text(rt, NONE);
-            None
-        }
-        _ => {
-            refused(rt, answer.number());
             None
         }
     }
@@ -131,12 +110,11 @@ pub fn answer(rt: &impl Print, case: Case, query: &[u8], image: LentImage) {
     let n = case.number as usize;
     match case.letter {
         b'e' | b'E' => exact(rt, image, query),
-        b'j' | b'J' => say(rt, untested(image, query)),
+        b'j' | b'J' => {
+            found(rt, untested(image, query));
+        }
         b'T' => table(rt, image, case.number),
-        b'y' => prefixed(
-            rt,
-            trie::is_prefix(image.labels, image.values, image.words, query),
-        ),
+        b'y' => is_prefix(rt, image, query),
         b'c' => common_all(rt, image, query),
         b'k' => {
             common_after(rt, image, query, n);
@@ -155,8 +133,8 @@ pub fn set_value(rt: &impl Print, value: u32, query: &[u8], memory: &mut Memory)
     let n = lent.values.min(values.len());
     let labels = part(&memory.labels, 0, lent.labels);
     let words = part(&memory.words, 0, lent.words);
-    say(
+    found(
         rt,
-        found(trie::set_value(labels, &mut values[..n], words, query, value)),
+        trie::set_value(labels, &mut values[..n], words, query, value),
     );
 }

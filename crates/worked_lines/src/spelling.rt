@@ -1,41 +1,16 @@
 // The cases that write a key or prefix into a buffer.
 use crate::held::Held;
+use keymap::Refusal;
 use replay::memory::{LONGEST, LentImage};
 use replay::parts::part;
-use replay::printing::{NONE, bytes, number, refused, text};
+use replay::printing::{bytes, found};
 use replay::text::Case;
+use trie::Cursor;
 use trie::place::Place;
-use trie::{Cursor, Longest, Spelled};
 
 // How many bytes were written into the buffer.
-fn spelled(rt: &impl Print, answer: Spelled) -> usize {
-    match answer {
-        Spelled::Wrote(length) => {
-            number(rt, length);
-            length
-        }
-        _ => {
-            refused(rt, answer.number());
-            0
-        }
-    }
-}
-
-fn longest(rt: &impl Print, answer: Longest) -> usize {
-    match answer {
-        Longest::Wrote(length) => {
-            number(rt, length);
-            length
-        }
-        Longest::NoMatch => {
-            text(rt, NONE);
-            0
-        }
-        _ => {
-            refused(rt, answer.number());
-            0
-        }
-    }
+fn written(rt: &impl Print, answer: Result<Option<usize>, Refusal>) -> usize {
+    found(rt, answer).unwrap_or(0)
 }
 
 // What is written into so many bytes: as many as `write` answers.
@@ -52,7 +27,7 @@ fn spell<F: FnOnce(&mut [u8]) -> usize>(rt: &impl Print, room: usize, write: F)
 // The longest prefix, into so many bytes.
 fn longest_prefix(rt: &impl Print, image: LentImage, query: &[u8], room: usize) {
     spell(rt, room, |out| {
-        longest(
+        written(
             rt,
             trie::longest_prefix(image.labels, image.values, image.words, query, out),
         )
@@ -62,9 +37,9 @@ fn longest_prefix(rt: &impl Print, image: LentImage, query: &[u8], room: usize) 
 // The cursor's key, into so many bytes.
 pub fn key(rt: &impl Print, image: LentImage, cursor: Cursor, room: usize) {
     spell(rt, room, |out| {
-        spelled(
+        written(
             rt,
-            trie::cursor_key(image.labels, image.values, image.words, cursor, out),
+            trie::cursor_key(image.labels, image.values, image.words, cursor, out).map(Some),
         )
     });
 }
@@ -72,9 +47,9 @@ pub fn key(rt: &impl Print, image: LentImage, cursor: Cursor, room: usize) {
 // The place's path, into so many bytes.
 pub fn path(rt: &impl Print, image: LentImage, place: Place, room: usize) {
     spell(rt, room, |out| {
-        spelled(
+        written(
             rt,
-            trie::place::prefix(image.labels, image.values, image.words, place, out),
+            trie::place::prefix(image.labels, image.values, image.words, place, out).map(Some),
         )
     });
 }

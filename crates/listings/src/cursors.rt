@@ -182,7 +182,7 @@ pub fn postfix_search(
 pub fn step(labels: &[u16], values: &[u32], words: &[u64], cursor: Cursor) -> Result<Step, Refusal>
     ensures answer { said_stepped result ≡ step_says (lent_image labels values words) cursor }
 {
-    accept(labels, values, words)?;
+    accept(labels, values, words)?; // for a finished cursor too
     let Cursor::Open { kind, top, last } = cursor else {
         return Ok(Step::End { next: cursor });
     };

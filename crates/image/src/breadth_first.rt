@@ -61,7 +61,8 @@ pub fn write_levels(pool: &[u32], n: u32, words: &mut [u64], queue: &mut [u32])
     ensures bits { words.new ≡ over (pool_words pool.now) words.old }
     ensures order { queue.new ≡ over (level_records pool.now) queue.old }
 {
-    clear(words, words_for(n));
+    let count = words_for(n);
+    clear(words, count);
     // the sequence begins with 1, 0
     put_one(words, 0);
     let mut at = 2;

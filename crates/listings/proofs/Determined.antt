@@ -25,12 +25,6 @@ use Rattle.listings.proofs.answers.Cursor.top.Reads as top-reads
 use Rattle.listings.specs.contracts.answers.Cursor.finished
 use Rattle.listings.proofs.answers.Cursor.finished.Kinds as finished-kinds
 use Rattle.listings.proofs.answers.Cursor.finished.Reads as finished-reads
-use Rattle.listings.specs.contracts.answers.Started.number as started-number
-use Rattle.listings.proofs.answers.Started.number.Kinds as started-number-kinds
-use Rattle.listings.proofs.answers.Started.number.Reads as started-number-reads
-use Rattle.listings.specs.contracts.answers.Stepped.number as stepped-number
-use Rattle.listings.proofs.answers.Stepped.number.Kinds as stepped-number-kinds
-use Rattle.listings.proofs.answers.Stepped.number.Reads as stepped-number-reads
 
 module _ (κs : Lfts 4) where
   pub predictive-search-determined : (a : ArgsD predictive_search.signature κs) (r₁ r₂ : ResD predictive_search.signature κs) (s₁ s₂ : AtExit (ended_of 4 predictive-search-kinds.ps predictive-search-kinds.r) κs)
@@ -58,11 +52,3 @@ module _ (κs : Lfts 0) where
   pub finished-determined : (a : ArgsD finished.signature κs) (r₁ r₂ : ResD finished.signature κs) (s₁ s₂ : AtExit (ended_of 0 finished-kinds.ps finished-kinds.r) κs)
       → finished-reads.Post κs a r₁ s₁ → finished-reads.Post κs a r₂ s₂ → r₁ ≡ r₂
   finished-determined a r₁ r₂ s₁ s₂ p q = p ∙ sym q
-
-  pub started-number-determined : (a : ArgsD started-number.signature κs) (r₁ r₂ : ResD started-number.signature κs) (s₁ s₂ : AtExit (ended_of 0 started-number-kinds.ps started-number-kinds.r) κs)
-      → started-number-reads.Post κs a r₁ s₁ → started-number-reads.Post κs a r₂ s₂ → r₁ ≡ r₂
-  started-number-determined a r₁ r₂ s₁ s₂ p q = p ∙ sym q
-
-  pub stepped-number-determined : (a : ArgsD stepped-number.signature κs) (r₁ r₂ : ResD stepped-number.signature κs) (s₁ s₂ : AtExit (ended_of 0 stepped-number-kinds.ps stepped-number-kinds.r) κs)
-      → stepped-number-reads.Post κs a r₁ s₁ → stepped-number-reads.Post κs a r₂ s₂ → r₁ ≡ r₂
-  stepped-number-determined a r₁ r₂ s₁ s₂ p q = p ∙ sym q

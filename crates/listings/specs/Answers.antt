@@ -4,17 +4,15 @@
 -- gives, its value and the next cursor;
 -- nodes are numbered from 1, and a step that gives none tells node 0.
 -- Assumes nothing.
-use Rattle.std.specs.Prelude.{ℕ, List, [], ◌∷◌}
-use Rattle.keymap.specs.Refusals.{refuses}
-use Rattle.keymap.specs.declared.refusals.Refusal.TheVariants.{NotAnImage, BadPlace}
+use Rattle.std.specs.Prelude.{ℕ, List, [], ◌∷◌, Result}
+use Rattle.keymap.specs.Answers.{said}
+use Rattle.keymap.specs.declared.refusals.Refusal.{Refusal}
 use Rattle.listings.specs.declared.answers.Kind.{Kind}
 use Rattle.listings.specs.declared.answers.Kind.TheVariants as kinds
 use Rattle.listings.specs.declared.answers.Cursor.{Cursor}
 use Rattle.listings.specs.declared.answers.Cursor.TheVariants as cursors
-use Rattle.listings.specs.declared.answers.Started.{Started}
-use Rattle.listings.specs.declared.answers.Started.TheVariants as started
-use Rattle.listings.specs.declared.answers.Stepped.{Stepped}
-use Rattle.listings.specs.declared.answers.Stepped.TheVariants as stepped
+use Rattle.listings.specs.declared.answers.Step.{Step}
+use Rattle.listings.specs.declared.answers.Step.TheVariants as steps
 
 abbrev pub said_kind : Kind → ℕ
 said_kind kinds.Predictive = 0
@@ -24,12 +22,12 @@ abbrev pub said_cursor : Cursor → List ℕ
 said_cursor (cursors.Open k top last) = said_kind k ∷ top ∷ last ∷ []
 said_cursor (cursors.Finished k) = said_kind k ∷ []
 
-abbrev pub said_started : Started → List ℕ
-said_started (started.At c) = 0 ∷ said_cursor c
-said_started started.NotAnImage = refuses NotAnImage
+abbrev pub said_started : Result Cursor Refusal → List ℕ
+said_started = said said_cursor
 
-abbrev pub said_stepped : Stepped → List ℕ
-said_stepped (stepped.Gave node value next) = 0 ∷ node ∷ value ∷ said_cursor next
-said_stepped (stepped.End next) = 0 ∷ 0 ∷ said_cursor next
-said_stepped stepped.NotAnImage = refuses NotAnImage
-said_stepped stepped.BadPlace = refuses BadPlace
+abbrev pub told_step : Step → List ℕ
+told_step (steps.Gave node value next) = node ∷ value ∷ said_cursor next
+told_step (steps.End next) = 0 ∷ said_cursor next
+
+abbrev pub said_stepped : Result Step Refusal → List ℕ
+said_stepped = said told_step

@@ -9,6 +9,7 @@
 --     given_len_by    how long the key of a node is in a listing
 -- Assumes nothing.
 use Rattle.std.specs.Prelude.{ℕ, zero, suc, ◌-◌, ◌^◌, Bool, true, false, cond, ◌&&◌, List, length, eqb, ltb, Option, None, Some}
+use Rattle.std.specs.Option.{option_or}
 use Rattle.keymap.specs.Key.{Key}
 use Rattle.keymap.specs.Answers.{given}
 use Rattle.walks.specs.declared.stands.Stand.{Stand}
@@ -16,7 +17,7 @@ use Rattle.walks.specs.Rule.{is_node_of, walked, value_of_node}
 use Rattle.walks.specs.Stands.{stand_at, kids_from}
 use Rattle.climbs.specs.Perches.{depth_by}
 use Rattle.climbs.specs.Below.{below_by}
-use Rattle.climbs.specs.Order.{or_else, with_value, next_by}
+use Rattle.climbs.specs.Order.{with_value, next_by}
 use Rattle.listings.specs.declared.answers.Kind.{Kind}
 use Rattle.listings.specs.declared.answers.Kind.TheVariants as kinds
 use Rattle.listings.specs.declared.answers.Cursor.{Cursor}
@@ -42,7 +43,7 @@ stands_by ls vs b len kind top last = is_node_of (length ls) top && last_stands 
 
 -- the top's own key comes before those below it
 unfoldable pub first_given_by : List ℕ → List ℕ → (ℕ → ℕ) → ℕ → ℕ → Option (ℕ × ℕ)
-first_given_by ls vs b len top = or_else (with_value top (value_of_node ls vs top)) (next_by ls vs b len top top)
+first_given_by ls vs b len top = option_or (with_value top (value_of_node ls vs top)) (next_by ls vs b len top top)
 
 abbrev pub fresh_given_by : List ℕ → List ℕ → (ℕ → ℕ) → ℕ → Kind → ℕ → Option (ℕ × ℕ)
 fresh_given_by ls vs b len kinds.Predictive top = first_given_by ls vs b len top

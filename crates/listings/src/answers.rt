@@ -1,18 +1,16 @@
 // What the listings are asked with and answer.
 ghost use Rattle.std.specs.Prelude.{◌≡◌};
-ghost use Rattle.keymap.specs.Answers.{answer_number};
-ghost use Rattle.listings.specs.Answers.{said_started, said_stepped};
 ghost use Rattle.listings.specs.declared.answers.Cursor.TheVariants.{Open, Finished};
 
 // Which keys a listing gives: those that begin with the query, or those that are longer besides.
-#[derive(Clone, Copy)]
+#[derive(Clone, Copy, Debug, PartialEq, Eq)]
 pub enum Kind {
     Predictive,
     Postfix,
 }
 
 // Where a listing stands.
-#[derive(Clone, Copy)]
+#[derive(Clone, Copy, Debug, PartialEq, Eq)]
 pub enum Cursor {
     // Below the node `top`; `last` is the node given last, 0 before the first step.
     Open { kind: Kind, top: u32, last: u32 },
@@ -39,53 +37,11 @@ impl Cursor {
     }
 }
 
-// A listing's start.
-#[derive(Clone, Copy)]
-pub enum Started {
-    At(Cursor),
-    // The lent image is no map's image.
-    NotAnImage,
-}
-
-impl Started {
-    // The number of a refusal, 0 where there is none.
-    pub fn number(self) -> u32
-        ensures { result ≡ answer_number (said_started self) }
-    {
-        match self {
-            Started::At(_) => 0,
-            Started::NotAnImage => 6,
-        }
-    }
-}
-
 // A step of a listing.
-#[derive(Clone, Copy)]
-pub enum Stepped {
+#[derive(Clone, Copy, Debug, PartialEq, Eq)]
+pub enum Step {
     // The least key of the set above the last one given: its node and value, and the cursor to go on with.
     Gave { node: u32, value: u32, next: Cursor },
     // There is none: the cursor is finished.
     End { next: Cursor },
-    // The lent image is no map's image.
-    NotAnImage,
-    // The cursor does not belong to the image.
-    BadPlace,
-}
-
-impl Stepped {
-    // The number of a refusal, 0 where there is none.
-    pub fn number(self) -> u32
-        ensures { result ≡ answer_number (said_stepped self) }
-    {
-        match self {
-            Stepped::Gave {
-                node: _,
-                value: _,
-                next: _,
-            } => 0,
-            Stepped::End { next: _ } => 0,
-            Stepped::NotAnImage => 6,
-            Stepped::BadPlace => 7,
-        }
-    }
 }

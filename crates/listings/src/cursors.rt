@@ -12,18 +12,20 @@ ghost use Rattle.listings.specs.Answers.{said_started, said_stepped};
 ghost use Rattle.listings.specs.Cursors.{start_says, step_says};
 ghost use Rattle.listings.specs.Numbers.{in_set_by, stands_by, first_given_by, next_given_by, has_keys_by, start_by};
 
-use crate::answers::{Cursor, Kind, Started, Stepped};
+use crate::answers::{Cursor, Kind, Step};
 use climbs::below::is_below;
-use climbs::order::{Given, next_valued};
+use climbs::order::next_valued;
 use descents::walk;
-use image::is_image;
-use walks::entries::{is_node, value_at};
+use image::accept;
+use keymap::Refusal;
+use walks::entries::{KeyNode, is_node, value_at};
 use walks::stands::{Stand, kids};
 
 // A cursor's numbers have 32 bits.
 const MOST_NUMBER: usize = u32::MAX as usize;
 
-// Whether a node is that of a key of a top's set.
+#[tactic(auto, unfolding(crate::specs::Numbers::in_set_by))]
+// Whether a node is that of a key of a top's set. A postfix set leaves out the top's own.
 fn in_set(
     labels: &[u16],
     values: &[u32],
@@ -35,20 +37,11 @@ fn in_set(
 ) -> bool
     ensures { result ≡ in_set_by labels.now values.now (bit words.now) len kind top node }
 {
-    let Some(_) = value_at(labels, values, node) else {
-        return false;
-    };
-    match kind {
-        Kind::Predictive => is_below(words, len, top, node),
-        Kind::Postfix => {
-            if node == top {
-                return false;
-            }
-            is_below(words, len, top, node)
-        }
-    }
+    let left_out = kind == Kind::Postfix && node == top;
+    !left_out && value_at(labels, values, node).is_some() && is_below(words, len, top, node)
 }
 
+#[tactic(auto, unfolding(crate::specs::Numbers::stands_by))]
 // Whether the numbers of an open cursor belong to the image.
 pub fn stands(
     labels: &[u16],
@@ -67,30 +60,36 @@ pub fn stands(
     if last == 0 {
         return true;
     }
-    if !is_node(labels, last) {
-        return false;
-    }
-    in_set(
-        labels,
-        values,
-        words,
-        len,
-        kind,
-        top as usize,
-        last as usize,
-    )
+    is_node(labels, last)
+        && in_set(
+            labels,
+            values,
+            words,
+            len,
+            kind,
+            top as usize,
+            last as usize,
+        )
 }
 
+#[tactic(auto, unfolding(crate::specs::Numbers::first_given_by))]
 // The first key that begins with the top's path: its own, if it has a value.
-fn first_given(labels: &[u16], values: &[u32], words: &[u64], len: usize, top: usize) -> Given
+fn first_given(
+    labels: &[u16],
+    values: &[u32],
+    words: &[u64],
+    len: usize,
+    top: usize,
+) -> Option<KeyNode>
     ensures { result ≡ given_of (first_given_by labels.now values.now (bit words.now) len top) }
 {
     match value_at(labels, values, top) {
-        Some(value) => Given::Entry { node: top, value },
+        Some(value) => Some(KeyNode { node: top, value }),
         None => next_valued(labels, values, words, len, top, top),
     }
 }
 
+#[tactic(auto, unfolding(crate::specs::Numbers::next_given_by))]
 // What the next step of an open cursor gives.
 fn next_given(
     labels: &[u16],
@@ -100,7 +99,7 @@ fn next_given(
     kind: Kind,
     top: usize,
     last: usize,
-) -> Given
+) -> Option<KeyNode>
     ensures { result
         ≡ given_of (next_given_by labels.now values.now (bit words.now) len kind top last) }
 {
@@ -126,58 +125,70 @@ fn has_keys(labels: &[u16], words: &[u64], len: usize, kind: Kind, s: Stand) -> 
     }
 }
 
-// The cursor that a listing starts with.
+#[tactic(auto, unfolding(crate::specs::Numbers::start_by))]
+// The cursor that a listing starts with, on any bits.
 fn start(labels: &[u16], words: &[u64], len: usize, kind: Kind, query: &[u8]) -> Cursor
     ensures { result ≡ start_by labels.now (bit words.now) len kind query.now }
 {
-    let Some(s) = walk(labels, words, len, query) else {
-        return Cursor::finished(kind);
-    };
-    if MOST_NUMBER < s.node {
-        return Cursor::finished(kind);
+    match walk(labels, words, len, query) {
+        Some(s) if s.node <= MOST_NUMBER && has_keys(labels, words, len, kind, s) => {
+            Cursor::top(kind, s.node as u32)
+        }
+        _ => Cursor::finished(kind),
     }
-    if !has_keys(labels, words, len, kind, s) {
-        return Cursor::finished(kind);
-    }
-    Cursor::top(kind, s.node as u32)
+}
+
+// A cursor over a query's set of either kind, finished where that has no key.
+fn listing(
+    labels: &[u16],
+    values: &[u32],
+    words: &[u64],
+    kind: Kind,
+    query: &[u8],
+) -> Result<Cursor, Refusal>
+    ensures answer { said_started result ≡ start_says kind (lent_image labels values words) query.now }
+{
+    accept(labels, values, words)?;
+    let len = 2 * labels.len() + 3;
+    Ok(start(labels, words, len, kind, query))
 }
 
 // A cursor over the keys that begin with a query, finished where there are none.
-pub fn predictive_search(labels: &[u16], values: &[u32], words: &[u64], query: &[u8]) -> Started
+pub fn predictive_search(
+    labels: &[u16],
+    values: &[u32],
+    words: &[u64],
+    query: &[u8],
+) -> Result<Cursor, Refusal>
     ensures answer { said_started result ≡ start_says kinds.Predictive (lent_image labels values words) query.now }
 {
-    if !is_image(labels, values, words) {
-        return Started::NotAnImage;
-    }
-    let len = 2 * labels.len() + 3;
-    Started::At(start(labels, words, len, Kind::Predictive, query))
+    listing(labels, values, words, Kind::Predictive, query)
 }
 
 // A cursor over the keys that begin with a query and are longer, finished where there are none.
-pub fn postfix_search(labels: &[u16], values: &[u32], words: &[u64], query: &[u8]) -> Started
+pub fn postfix_search(
+    labels: &[u16],
+    values: &[u32],
+    words: &[u64],
+    query: &[u8],
+) -> Result<Cursor, Refusal>
     ensures answer { said_started result ≡ start_says kinds.Postfix (lent_image labels values words) query.now }
 {
-    if !is_image(labels, values, words) {
-        return Started::NotAnImage;
-    }
-    let len = 2 * labels.len() + 3;
-    Started::At(start(labels, words, len, Kind::Postfix, query))
+    listing(labels, values, words, Kind::Postfix, query)
 }
 
 // The least key of the cursor's set above the one given last, with the cursor to go on with; after the last key, and of
 // a finished cursor, the end.
-pub fn step(labels: &[u16], values: &[u32], words: &[u64], cursor: Cursor) -> Stepped
+pub fn step(labels: &[u16], values: &[u32], words: &[u64], cursor: Cursor) -> Result<Step, Refusal>
     ensures answer { said_stepped result ≡ step_says (lent_image labels values words) cursor }
 {
-    if !is_image(labels, values, words) {
-        return Stepped::NotAnImage;
-    }
+    accept(labels, values, words)?;
     let Cursor::Open { kind, top, last } = cursor else {
-        return Stepped::End { next: cursor };
+        return Ok(Step::End { next: cursor });
     };
     let len = 2 * labels.len() + 3;
     if !stands(labels, values, words, len, kind, top, last) {
-        return Stepped::BadPlace;
+        return Err(Refusal::BadPlace);
     }
     match next_given(
         labels,
@@ -188,17 +199,20 @@ pub fn step(labels: &[u16], values: &[u32], words: &[u64], cursor: Cursor) -> St
         top as usize,
         last as usize,
     ) {
-        Given::Entry { node, value } => Stepped::Gave {
-            node: node as u32,
-            value,
-            next: Cursor::Open {
-                kind,
-                top,
-                last: node as u32,
-            },
-        },
-        Given::Nothing => Stepped::End {
+        Some(key) => {
+            let node = key.node as u32;
+            Ok(Step::Gave {
+                node,
+                value: key.value,
+                next: Cursor::Open {
+                    kind,
+                    top,
+                    last: node,
+                },
+            })
+        }
+        None => Ok(Step::End {
             next: Cursor::finished(kind),
-        },
+        }),
     }
 }

@@ -9,10 +9,10 @@ ghost use Rattle.listings.specs.GivenKey.{key_says, key_out};
 
 use crate::answers::{Cursor, Kind};
 use crate::cursors::stands;
-use climbs::answers::Spelled;
 use climbs::perches::depth;
 use climbs::spelling::spell;
-use image::is_image;
+use image::accept;
+use keymap::Refusal;
 
 // How long the key of a node is in a listing, on any bits: in a postfix listing the top's path does not count.
 fn given_len(words: &[u64], len: usize, kind: Kind, top: usize, node: usize) -> usize
@@ -21,13 +21,7 @@ fn given_len(words: &[u64], len: usize, kind: Kind, top: usize, node: usize) -> 
     let whole = depth(words, len, node);
     match kind {
         Kind::Predictive => whole,
-        Kind::Postfix => {
-            let above = depth(words, len, top);
-            if whole < above {
-                return 0;
-            }
-            whole - above
-        }
+        Kind::Postfix => whole.saturating_sub(depth(words, len, top)),
     }
 }
 
@@ -39,27 +33,22 @@ pub fn cursor_key(
     words: &[u64],
     cursor: Cursor,
     out: &mut [u8],
-) -> Spelled
+) -> Result<usize, Refusal>
     ensures answer { said_spelled result ≡ key_says (lent_image labels values words) cursor out.old }
     ensures written { out.new ≡ key_out (lent_image labels values words) cursor out.old }
 {
-    if !is_image(labels, values, words) {
-        return Spelled::NotAnImage;
-    }
+    accept(labels, values, words)?;
     let Cursor::Open { kind, top, last } = cursor else {
-        return Spelled::BadPlace;
+        return Err(Refusal::BadPlace);
     };
-    if last == 0 {
-        return Spelled::BadPlace;
-    }
     let len = 2 * labels.len() + 3;
-    if !stands(labels, values, words, len, kind, top, last) {
-        return Spelled::BadPlace;
+    if last == 0 || !stands(labels, values, words, len, kind, top, last) {
+        return Err(Refusal::BadPlace);
     }
     let length = given_len(words, len, kind, top as usize, last as usize);
     if out.len() < length {
-        return Spelled::KeyRoom;
+        return Err(Refusal::KeyRoom);
     }
     spell(labels, words, len, last as usize, length, out);
-    Spelled::Wrote(length)
+    Ok(length)
 }

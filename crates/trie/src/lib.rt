@@ -9,10 +9,9 @@
 
 pub mod place;
 
-pub use climbs::answers::Spelled;
-pub use listings::answers::{Cursor, Kind, Started, Stepped};
+pub use listings::answers::{Cursor, Kind, Step};
 pub use listings::{cursor_key, postfix_search, predictive_search, step};
-pub use searches::answers::{Common, Longest, Looked, Prefixed};
+pub use searches::answers::Common;
 pub use searches::{
     common_prefix, common_prefix_part, exact_match, exact_match_untested, is_prefix,
     longest_prefix, set_value,

@@ -13,7 +13,7 @@
 --     keys-longer, keys-some     whether a set has a key
 --     start_says-refused, start_says-accepted, step_says-refused, -finished, -bad, -open  what a start and a step say
 -- Assumes nothing.
-use mathlib.Core.Path.{◌≡◌, refl, ap, ◌∙◌}
+use mathlib.Core.Path.{◌≡◌, refl, ap, subst, ◌∙◌}
 use mathlib.Core.Logic.{inr, ⊎_elim}
 use Prim.Native.Nat.{ℕ, zero, suc, ◌<◌}
 use native.Mathlib.Omega.{arith}
@@ -47,8 +47,8 @@ use Rattle.listings.specs.declared.answers.Kind.{Kind}
 use Rattle.listings.specs.declared.answers.Kind.TheVariants as kinds
 use Rattle.listings.specs.declared.answers.Cursor.{Cursor}
 use Rattle.listings.specs.declared.answers.Cursor.TheVariants.{Open, Finished}
-use Rattle.climbs.specs.declared.order.Given.TheVariants as gives
 use Rattle.listings.specs.Answers.{said_cursor}
+use Rattle.walks.specs.declared.entries.KeyNode.{KeyNode}
 use Rattle.climbs.specs.Order.{UnderTop, given_by}
 use Rattle.listings.specs.Cursors.{set_of, last_belongs, belongs, start_says, next_in, says_end, says_step, step_says}
 use Rattle.walks.proofs.Laws.MapImage.{length-prefixes}
@@ -164,10 +164,10 @@ module _ (m : Map) (kind : Kind) (top last : ℕ) where
 -- ---- what the next step gives
 
 module _ (m : Map) (c : Catalogue m) (top : ℕ) (inside : IsNode m top) where
-  pub head-valued : (v : ℕ) → lookup (path_of m top) m ≡ Some v → given_by m (head_of (beginning (path_of m top) m)) ≡ gives.Entry top v
+  pub head-valued : (v : ℕ) → lookup (path_of m top) m ≡ Some v → given_by m (head_of (beginning (path_of m top) m)) ≡ Some (record { node = top; value = v })
   head-valued v e =
       ap (λ (n : Map). given_by m (head_of n)) (beginning-present (path_of m top) v m c.rising e)
-      ∙ ap (λ (k : ℕ). gives.Entry k v) (node_of-path_of m c.rising top inside)
+      ∙ ap (λ (k : ℕ). Some (record { node = k; value = v })) (node_of-path_of m c.rising top inside)
 
   pub head-unvalued : lookup (path_of m top) m ≡ None → head_of (beginning (path_of m top) m) ≡ least_above (path_of m top) (beginning (path_of m top) m)
   head-unvalued e = ap head_of (beginning-absent (path_of m top) m c.rising e) ∙ head-longer m c.rising (path_of m top)
@@ -192,26 +192,26 @@ next_in-in m r kind p zero e f = head_in (set_of m kind p) f
 next_in-in m r kind p (suc k) e f = ((least_above-some (path_of m (suc k)) (set_of m kind p) (set_of-rising m r kind p) e).0 f).entry
 
 -- a step's answer, by what was given
-pub says_step-entry : (m : Map) (kind : Kind) (top : ℕ) (o : Option Entry) (k v : ℕ) → given_by m o ≡ gives.Entry k v → says_step m kind top o ≡ 0 ∷ k ∷ v ∷ said_cursor (Open kind top k)
-says_step-entry m kind top None k v e = let z : ◌≡◌ {A = ℕ} 0 1 = cc in absurd (omega arith)
-says_step-entry m kind top (Some d) k v e =
-    let f : node_of m d.0 ≡ k = cc in
-    let g : d.1 ≡ v = cc in
-    λ i. 0 ∷ f i ∷ g i ∷ said_cursor (Open kind top (f i))
+pub says_step-entry : (m : Map) (kind : Kind) (top : ℕ) (o : Option Entry) (n : KeyNode) → given_by m o ≡ Some n
+    → says_step m kind top o ≡ 0 ∷ n.node ∷ n.value ∷ said_cursor (Open kind top n.node)
+says_step-entry m kind top None n e = let z : ◌≡◌ {A = ℕ} 0 1 = cc in absurd (omega arith)
+says_step-entry m kind top (Some d) n e =
+    let f : ◌≡◌ {A = KeyNode} (record { node = node_of m d.0; value = d.1 }) n = cc in
+    ap (λ (k : KeyNode). 0 ∷ k.node ∷ k.value ∷ said_cursor (Open kind top k.node)) f
 
-pub says_step-nothing : (m : Map) (kind : Kind) (top : ℕ) (o : Option Entry) → given_by m o ≡ gives.Nothing → says_step m kind top o ≡ says_end kind
+pub says_step-nothing : (m : Map) (kind : Kind) (top : ℕ) (o : Option Entry) → given_by m o ≡ None → says_step m kind top o ≡ says_end kind
 says_step-nothing m kind top None e = refl
 says_step-nothing m kind top (Some d) e = let z : ◌≡◌ {A = ℕ} 0 1 = cc in absurd (omega arith)
 
-pub given_inside : (m : Map) → Rising m → (kind : Kind) (p : Key) (last k v : ℕ) → given_by m (next_in m (set_of m kind p) last) ≡ gives.Entry k v → IsNode m k
-given_inside m r kind p last k v e = go (next_in m (set_of m kind p) last) refl e
+pub given_inside : (m : Map) → Rising m → (kind : Kind) (p : Key) (last : ℕ) (n : KeyNode) → given_by m (next_in m (set_of m kind p) last) ≡ Some n → IsNode m n.node
+given_inside m r kind p last n e = go (next_in m (set_of m kind p) last) refl e
   where
-    go : (o : Option Entry) → next_in m (set_of m kind p) last ≡ o → given_by m o ≡ gives.Entry k v → IsNode m k
+    go : (o : Option Entry) → next_in m (set_of m kind p) last ≡ o → given_by m o ≡ Some n → IsNode m n.node
     go None f g = let z : ◌≡◌ {A = ℕ} 0 1 = cc in absurd (omega arith)
     go (Some d) f g =
         let own : In d.0 (nodes m) = entry-path m d (set_of-in m r kind p d (next_in-in m r kind p last d f)).0 in
-        let at : node_of m d.0 ≡ k = cc in
-        rw at at (node_of-node m d.0 own)
+        let same : ◌≡◌ {A = KeyNode} (record { node = node_of m d.0; value = d.1 }) n = cc in
+        subst (λ (k : KeyNode). IsNode m k.node) same (node_of-node m d.0 own)
 
 -- ---- the start
 

@@ -1,8 +1,7 @@
 -- What the code computes by numbers, by its cases; and on an image that some map has it is what the map's definitions say.
 --
 --     in_set_by-unvalued, -predictive, -own, -postfix  a node of a set
---     stands_by-no-top, -fresh, -no-last, -last  the numbers of a cursor
---     first_given_by-held, -bare, next_given_by-later, -predictive, -postfix  what the next step gives
+--     first_given_by-held, -bare  the first key below a top
 --     start_by-lost, -far, -near  the start
 --     stands-path                 the numbers stand exactly if the cursor belongs
 --     given-path                  of a cursor that belongs the next entry of its set is given
@@ -32,7 +31,7 @@ use Rattle.keymap.proofs.Laws.Paths.{is_node-iff, node_of-node, path_of-node_of,
 use Rattle.keymap.proofs.Laws.Steps.{head-longer}
 use Rattle.image.specs.Accept.{entries}
 use Rattle.image.specs.Meaning.{MapImage}
-use Rattle.walks.specs.Rule.{is_node_of, walked, value_of_node}
+use Rattle.walks.specs.Rule.{walked, value_of_node}
 use Rattle.walks.specs.Stands.{stand_at}
 use Rattle.walks.proofs.Laws.MapImage.{length-nodes, is_node-is}
 use Rattle.walks.proofs.Laws.MapWalk.{PathTold, there, absent, path-told, walk-rule, node-value}
@@ -72,33 +71,6 @@ module _ (ls vs : List ℕ) (b : ℕ → ℕ) (len : ℕ) where
       unfolding in_set_by
       in_set_by-postfix d = rw (held, ne_eqb node top d)
 
-  module _ (kind : Kind) (top last : ℕ) where
-    pub stands_by-no-top : is_node_of (length ls) top ≡ false → stands_by ls vs b len kind top last ≡ false
-    unfolding stands_by
-    stands_by-no-top e = rw e
-
-    module _ (inside : is_node_of (length ls) top ≡ true) where
-      pub stands_by-fresh : last ≡ 0 → stands_by ls vs b len kind top last ≡ true
-      unfolding stands_by
-      stands_by-fresh z = rw (inside, z)
-
-      module _ (later : ¬ (last ≡ 0)) where
-        pub stands_by-no-last : is_node_of (length ls) last ≡ false → stands_by ls vs b len kind top last ≡ false
-        unfolding stands_by
-        stands_by-no-last e = rw inside (go last later e)
-          where
-            go : (k : ℕ) → ¬ (k ≡ 0) → is_node_of (length ls) k ≡ false → last_stands ls vs b len kind top k ≡ false
-            go zero d f = absurd (d refl)
-            go (suc k) d f = rw f
-
-        pub stands_by-last : is_node_of (length ls) last ≡ true → stands_by ls vs b len kind top last ≡ in_set_by ls vs b len kind top last
-        unfolding stands_by
-        stands_by-last e = rw inside (go last later e)
-          where
-            go : (k : ℕ) → ¬ (k ≡ 0) → is_node_of (length ls) k ≡ true → last_stands ls vs b len kind top k ≡ in_set_by ls vs b len kind top k
-            go zero d f = absurd (d refl)
-            go (suc k) d f = rw f
-
   module _ (top : ℕ) where
     pub first_given_by-held : (v : ℕ) → value_of_node ls vs top ≡ Some v → first_given_by ls vs b len top ≡ Some (top, v)
     unfolding first_given_by
@@ -107,19 +79,6 @@ module _ (ls vs : List ℕ) (b : ℕ → ℕ) (len : ℕ) where
     pub first_given_by-bare : value_of_node ls vs top ≡ None → first_given_by ls vs b len top ≡ next_by ls vs b len top top
     unfolding first_given_by
     first_given_by-bare e = rw e
-
-    pub next_given_by-later : (kind : Kind) (last : ℕ) → ¬ (last ≡ 0) → next_given_by ls vs b len kind top last ≡ next_by ls vs b len top last
-    unfolding next_given_by
-    next_given_by-later kind zero d = absurd (d refl)
-    next_given_by-later kind (suc k) d = refl
-
-    pub next_given_by-predictive : (kind : Kind) (last : ℕ) → last ≡ 0 → kind ≡ kinds.Predictive → next_given_by ls vs b len kind top last ≡ first_given_by ls vs b len top
-    unfolding next_given_by
-    next_given_by-predictive kind last z e = rw (z, e)
-
-    pub next_given_by-postfix : (kind : Kind) (last : ℕ) → last ≡ 0 → kind ≡ kinds.Postfix → next_given_by ls vs b len kind top last ≡ next_by ls vs b len top top
-    unfolding next_given_by
-    next_given_by-postfix kind last z e = rw (z, e)
 
 module _ (ls : List ℕ) (b : ℕ → ℕ) (len : ℕ) (kind : Kind) (q : Key) where
   pub start_by-lost : walked ls b len q ≡ None → start_by ls b len kind q ≡ Finished kind

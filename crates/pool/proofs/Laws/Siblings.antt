@@ -20,7 +20,7 @@ use native.Mathlib.Numerals.{sub-one}
 use lib.ListN.{length}
 use lib.Dec.{ltb, eqb}
 use borrow.Author.Tests.{le-ltb, lt-ltb, eq-eqb, ne_eqb, eqb-true, eqb-false}
-use Rattle.std.specs.Prelude.{Option, None, Some}
+use Rattle.std.specs.Prelude.{None, Some}
 use Rattle.records.specs.Words.{Pool, label, first_child, next_sibling, last_record, Node}
 use Rattle.records.specs.Sound.{Among, Chain, LabelsRise, ChildChain}
 use Rattle.records.specs.Spelling.{ChildBy}

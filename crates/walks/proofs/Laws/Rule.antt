@@ -27,7 +27,7 @@ use Rattle.keymap.specs.Key.{Key}
 use Rattle.keymap.specs.Label.{mark, label_in}
 use Rattle.louds.specs.Nodes.{Run}
 use Rattle.louds.specs.Nodes.{children_of}
-use Rattle.walks.specs.Rule.{is_node_of, counts_to, matches, is_child_by, lowest_by, child_by, step_by, walked_from, value_of_node}
+use Rattle.walks.specs.Rule.{counts_to, matches, is_child_by, lowest_by, child_by, step_by, walked_from, value_of_node}
 
 -- ---- numbers
 

@@ -22,7 +22,7 @@ use Rattle.std.specs.Prelude.{Option, None, Some, unwrap_or}
 use lib.Dec.{ltb, leb}
 use lib.ListN.{length, get_or, drop}
 use lib.Seq.{drop-cons}
-use borrow.Author.Tests.{lt-ltb, le-ltb, le-leb, lt-leb, ltb-true, leb-true}
+use borrow.Author.Tests.{lt-ltb, le-ltb, le-leb, ltb-true, leb-true}
 use Rattle.louds.specs.Rank.{gap}
 use Rattle.louds.specs.Select.{onward, zero_at, zero_from}
 use Rattle.louds.specs.Nodes.{Run, children_of}
@@ -282,11 +282,6 @@ reached_at-lost b len None e = refl
 reached_at-lost b len (Some k) e = let z : ◌≡◌ {A = ℕ} 0 1 = cc in absurd (omega arith)
 
 module _ (ls : List ℕ) (b : ℕ → ℕ) (len : ℕ) (s : Stand) (a : ℕ) where
-  pub down_from-there : (m : ℕ) → lowest_by ls s.node (kids_from b len s).count (kids_from b len s).first a ≡ Some m
-      → down_from ls b len s a ≡ Some (kid_from b len s.node (kids_from b len s).next m)
-  unfolding down_from
-  down_from-there m e = ap (to_kid b len s.node (kids_from b len s).next) e
-
   pub down_from-absent : lowest_by ls s.node (kids_from b len s).count (kids_from b len s).first a ≡ None → down_from ls b len s a ≡ None
   unfolding down_from
   down_from-absent e = ap (to_kid b len s.node (kids_from b len s).next) e

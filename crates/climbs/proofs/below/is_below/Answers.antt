@@ -1,10 +1,7 @@
-use mathlib.Core.Path.{sym, ap, ◌∙◌}
+use mathlib.Core.Path.{sym, ◌∙◌}
 use native.Mathlib.Omega.{arith}
 use Rattle.keymap.specs.Bits.{bit}
 use Rattle.keymap.proofs.Laws.Bits.{bit-small}
-use Rattle.climbs.specs.declared.perches.Perch.{Perch}
-use Rattle.climbs.specs.Perches.{perch_at}
-use Rattle.climbs.specs.Below.{below_by}
 use Rattle.climbs.proofs.Laws.Perches.{RiseTold, rise-to, rise-lost}
 use Rattle.climbs.proofs.Laws.Below.{below_by-here, below_by-lost, below_by-up}
 use Rattle.climbs.proofs.below.is_below.Goals.{In-Some}

@@ -1,4 +1,4 @@
-use mathlib.Core.Path.{refl, sym, ◌∙◌}
+use mathlib.Core.Path.{sym, ◌∙◌}
 use native.Mathlib.Omega.{arith}
 use Rattle.keymap.specs.Bits.{bit}
 use Rattle.climbs.proofs.Laws.Moves.{rise-lower, climb_from-top, climb_from-beside, climb_from-lost, climb_from-up}

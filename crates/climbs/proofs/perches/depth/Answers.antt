@@ -1,9 +1,6 @@
-use mathlib.Core.Path.{◌≡◌, sym, ap, ◌∙◌}
 use native.Mathlib.Omega.{arith}
 use Rattle.keymap.specs.Bits.{bit}
 use Rattle.keymap.proofs.Laws.Bits.{bit-small}
-use Rattle.climbs.specs.declared.perches.Perch.{Perch}
-use Rattle.climbs.specs.Perches.{depth_by, perch_at}
 use Rattle.climbs.proofs.Laws.Perches.{depth-root, depth-next, RiseTold, rise-to, rise-lost}
 use Rattle.climbs.proofs.perches.depth.Goals.{In-Some}
 use Rattle.climbs.proofs.perches.depth.Goals as goal

@@ -3,41 +3,54 @@
 use mathlib.Core.Path.{◌≡◌, sym, ap, ◌∙◌}
 use Prim.Native.Nat.{◌+◌, ◌≤◌}
 use native.Mathlib.Omega.{arith}
-use mathlib.Core.Bool.{true}
+use mathlib.Core.Bool.{true, false}
 use mathlib.Core.List.{◌∷◌}
-use Rattle.std.specs.Prelude.{Option}
+use Rattle.std.specs.Prelude.{Option, Some, Err}
+use Rattle.std.proofs.lemmas.Result.{err_from_is_err_and}
+use Rattle.keymap.specs.declared.refusals.Refusal.{Refusal}
 use borrow.Author.Rules.{rules}
 use Rattle.keymap.specs.Limits.{most_records}
 use Rattle.keymap.specs.Bits.{bit}
 use Rattle.keymap.specs.Image.{Image, bits_for}
 use Rattle.keymap.specs.Map.{Entry, Map}
-use Rattle.keymap.specs.Paths.{IsNode, path_of}
+use Rattle.keymap.specs.Paths.{path_of}
 use Rattle.keymap.specs.Decode.{image_map}
 use Rattle.image.specs.Accept.{entries}
 use Rattle.image.specs.AcceptTest.{image_test}
 use Rattle.image.specs.Meaning.{image_in, MapImage}
+use Rattle.image.proofs.Laws.AcceptAnswer.{accepted-ok, accepted-err}
 use Rattle.image.proofs.Laws.Meaning.{tested-map_image}
 use Rattle.climbs.specs.Order.{given_by, given_of}
-use Rattle.climbs.specs.declared.order.Given.{Given}
+use Rattle.walks.specs.declared.entries.KeyNode.{KeyNode}
 use Rattle.listings.specs.declared.answers.Cursor.{Cursor}
 use Rattle.listings.specs.declared.answers.Cursor.TheVariants.{Open}
-use Rattle.listings.specs.Answers.{said_cursor}
+use Rattle.listings.specs.Answers.{said_cursor, said_stepped}
 use Rattle.listings.specs.Cursors.{set_of, belongs, next_in, says_step, step_says}
 use Rattle.listings.specs.Numbers.{next_given_by}
 use Rattle.walks.proofs.Laws.MapImage.{length-nodes}
 use Rattle.listings.proofs.Laws.Cursors.{step_says-refused, step_says-finished, step_says-bad, step_says-open, says_step-entry, says_step-nothing, given_inside}
 use Rattle.listings.proofs.Laws.Numbers.{stands-path, given-path}
-use Rattle.listings.proofs.cursors.step.Goals.{Else-not-is_image, Else-not-stands, In-Entry}
+use Rattle.listings.proofs.cursors.step.Goals.{In_ok-accept, After-from_residual, Else-not-stands}
 use Rattle.listings.proofs.cursors.step.Goals as goal
 
-pub returns-then-not-is_image : goal.returns-then-not-is_image
-returns-then-not-is_image c = record { answer = sym (step_says-refused (image_in c.args.labels c.args.values c.args.words) c.args.cursor (sym c.is_image.ensures ∙ c.if-not-is_image.true)) }
+-- where the test fails, that is passed on
+refused : (c : After-from_residual)
+    → (image_test (image_in c.args.labels c.args.values c.args.words) ≡ false) × (c.from_residual.result ≡ Err Refusal.NotAnImage)
+refused c =
+    let (fails, number) = accepted-err _ _ (sym c.accept.ensures.tested ∙ c.in_err-accept.was) in
+    let passed = err_from_is_err_and c.from_residual.result c.from_residual.ensures.1 in
+    (fails, passed.1 ∙ ap Err (passed.2 ∙ number))
+
+pub returns-in_err-accept : goal.returns-in_err-accept
+returns-in_err-accept c =
+    let (fails, six) = refused c in
+    record { answer = ap said_stepped six ∙ sym (step_says-refused (image_in c.args.labels c.args.values c.args.words) c.args.cursor fails) }
 
 -- past the test the image is a map's
-tested : (c : Else-not-is_image) → image_test (image_in c.args.labels c.args.values c.args.words) ≡ true
-tested c = sym c.is_image.ensures ∙ c.if-not-is_image.false
+tested : (c : In_ok-accept) → image_test (image_in c.args.labels c.args.values c.args.words) ≡ true
+tested c = accepted-ok _ _ (sym c.accept.ensures.tested ∙ c.in_ok-accept.was)
 
-whole : (c : Else-not-is_image) → MapImage (image_in c.args.labels c.args.values c.args.words)
+whole : (c : In_ok-accept) → MapImage (image_in c.args.labels c.args.values c.args.words)
 whole c =
     tested-map_image (image_in c.args.labels c.args.values c.args.words)
     (record { words-wide = λ w. (c.type_inv.words w).fits; values-wide = λ e. (c.type_inv.values e).fits })
@@ -49,12 +62,12 @@ returns-in_default c =
     record {
       answer =
           ap (λ (d : Cursor). 0 ∷ 0 ∷ said_cursor d) c.in_default.is
-          ∙ sym (ap (step_says i) c.in_default.is ∙ step_says-finished i _ (tested (goal.at.returns-in_default c).Else-not-is_image));
+          ∙ sym (ap (step_says i) c.in_default.is ∙ step_says-finished i _ (tested (goal.at.returns-in_default c).In_ok-accept));
     }
 
 pub returns-then-not-stands : goal.returns-then-not-stands
 returns-then-not-stands c =
-    let p = (goal.at.returns-then-not-stands c).Else-not-is_image in
+    let p = (goal.at.returns-then-not-stands c).In_ok-accept in
     let i = image_in c.args.labels c.args.values c.args.words in
     record {
       answer = sym
@@ -75,63 +88,57 @@ next_at c = next_in (map_at c) (set_of (map_at c) c.in-Open.kind (path_of (map_a
 -- the cursor's numbers belong
 belonging : (c : Else-not-stands) → belongs (map_at c) (Open c.in-Open.kind c.in-Open.top c.in-Open.last) ≡ true
 belonging c =
-    sym (stands-path _ (whole (goal.at.overflow_cast-top c).Else-not-is_image) c.in-Open.kind c.in-Open.top c.in-Open.last)
+    sym (stands-path _ (whole (goal.at.overflow_cast-top c).In_ok-accept) c.in-Open.kind c.in-Open.top c.in-Open.last)
     ∙ sym c.stands.ensures
     ∙ c.if-not-stands.false
 
 says : (c : Else-not-stands) → step_says (image_at c) c.args.cursor ≡ says_step (map_at c) c.in-Open.kind c.in-Open.top (next_at c)
 says c =
     ap (step_says (image_at c)) c.in-Open.is
-    ∙ step_says-open (image_at c) c.in-Open.kind c.in-Open.top c.in-Open.last (tested (goal.at.overflow_cast-top c).Else-not-is_image) (belonging c)
+    ∙ step_says-open (image_at c) c.in-Open.kind c.in-Open.top c.in-Open.last (tested (goal.at.overflow_cast-top c).In_ok-accept) (belonging c)
 
 -- what was given is the next entry of the cursor's set
-abbrev given_at : Else-not-stands → Given
+abbrev given_at : Else-not-stands → Option KeyNode
 given_at c =
     let i = image_at c in
     given_of (next_given_by i.labels i.values (bit i.words) (bits_for (entries i)) c.in-Open.kind c.in-Open.top c.in-Open.last)
 
-gives : (c : Else-not-stands) (result is : Given) → result ≡ given_at c → result ≡ is → given_by (map_at c) (next_at c) ≡ is
+gives : (c : Else-not-stands) (result is : Option KeyNode) → result ≡ given_at c → result ≡ is → given_by (map_at c) (next_at c) ≡ is
 gives c result is ensured matched =
-    sym (given-path _ (whole (goal.at.overflow_cast-top c).Else-not-is_image) c.in-Open.kind c.in-Open.top c.in-Open.last (belonging c))
+    sym (given-path _ (whole (goal.at.overflow_cast-top c).In_ok-accept) c.in-Open.kind c.in-Open.top c.in-Open.last (belonging c))
     ∙ sym ensured
     ∙ matched
 
 -- the node given is a node, so that its number fits
-inside : (c : In-Entry) → IsNode (image_map (image_in c.args.labels c.args.values c.args.words)) c.in-Entry.node
-inside c =
-    let b = (goal.at.overflow_cast-result c).Else-not-stands in
-    let rising = (whole (goal.at.overflow_cast-result c).Else-not-is_image).catalogue.rising in
-    given_inside (map_at b) rising b.in-Open.kind (path_of (map_at b) b.in-Open.top) b.in-Open.last _ _ (gives b _ _ c.next_given.ensures c.in-Entry.is)
+fits : (c : Else-not-stands) (n : KeyNode) → given_by (map_at c) (next_at c) ≡ Some n → n.node ≤ most_records + 1
+fits c n given =
+    let map = whole (goal.at.overflow_cast-top c).In_ok-accept in
+    let inside = given_inside (map_at c) map.catalogue.rising c.in-Open.kind (path_of (map_at c) c.in-Open.top) c.in-Open.last n given in
+    omega (arith, inside.1, length-nodes (image_at c) map, map.few)
 
-fits : (c : In-Entry) → c.in-Entry.node ≤ most_records + 1
-fits c =
-    let map = whole (goal.at.overflow_cast-result c).Else-not-is_image in
-    omega (arith, (inside c).1, length-nodes (image_in c.args.labels c.args.values c.args.words) map, map.few)
+pub overflow_cast-node : goal.overflow_cast-node
+overflow_cast-node c =
+    let b = (goal.at.overflow_cast-node c).Else-not-stands in
+    omega (arith, fits b _ (gives b _ _ c.next_given.ensures c.in-Some.is))
 
-pub overflow_cast-result : goal.overflow_cast-result
-overflow_cast-result c = omega (arith, fits c)
-
-pub overflow_cast-result-in-Entry : goal.overflow_cast-result-in-Entry
-overflow_cast-result-in-Entry c = omega (arith, fits c)
-
-pub returns-in-Entry : goal.returns-in-Entry
-returns-in-Entry c =
-    let b = (goal.at.returns-in-Entry c).Else-not-stands in
+pub returns-in-Some : goal.returns-in-Some
+returns-in-Some c =
+    let b = (goal.at.returns-in-Some c).Else-not-stands in
     record {
       answer = sym
           (says b
-          ∙ says_step-entry (map_at b) b.in-Open.kind b.in-Open.top (next_at b) _ _ (gives b _ _ c.next_given.ensures c.in-Entry.is));
+          ∙ says_step-entry (map_at b) b.in-Open.kind b.in-Open.top (next_at b) _ (gives b _ _ c.next_given.ensures c.in-Some.is));
     }
 
-pub returns-in-Nothing : goal.returns-in-Nothing
-returns-in-Nothing c =
-    let b = (goal.at.returns-in-Nothing c).Else-not-stands in
+pub returns-in-None : goal.returns-in-None
+returns-in-None c =
+    let b = (goal.at.returns-in-None c).Else-not-stands in
     record {
       answer =
           ap (λ (d : Cursor). 0 ∷ 0 ∷ said_cursor d) c.finished.ensures
           ∙ sym
           (says b
-          ∙ says_step-nothing (map_at b) b.in-Open.kind b.in-Open.top (next_at b) (gives b _ _ c.next_given.ensures c.in-Nothing.is));
+          ∙ says_step-nothing (map_at b) b.in-Open.kind b.in-Open.top (next_at b) (gives b _ _ c.next_given.ensures c.in-None.is));
     }
 
 -- asked here so that the laws above can look back from it

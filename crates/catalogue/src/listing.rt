@@ -54,12 +54,15 @@ fn list_image(labels: &[u16], values: &[u32], words: &[u64], out: &mut [u8]) -> 
         return 0;
     };
     let mut at = 0;
-    while let Ok(Step::Gave {
-        node: _,
-        value,
-        next,
-    }) = step(labels, values, words, cursor)
-    {
+    while let Ok(given) = step(labels, values, words, cursor) {
+        let Step::Gave {
+            node: _,
+            value,
+            next,
+        } = given
+        else {
+            return at;
+        };
         let Ok(length) = cursor_key(labels, values, words, next, &mut out[at..]) else {
             return at;
         };

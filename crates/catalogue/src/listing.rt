@@ -9,7 +9,7 @@ ghost use Rattle.image.specs.Meaning.{image_in, lent_image, MapImage};
 ghost use Rattle.lines.specs.Writing.{map_text};
 
 use crate::putting::put_value;
-use listings::answers::Step;
+use listings::answers::Stepped;
 use listings::{cursor_key, predictive_search, step};
 
 // Builds the image of a pool's map and puts its listing at the start of `out`; answers the listing's length.
@@ -55,7 +55,7 @@ fn list_image(labels: &[u16], values: &[u32], words: &[u64], out: &mut [u8]) -> 
     };
     let mut at = 0;
     while let Ok(given) = step(labels, values, words, cursor) {
-        let Step::Gave {
+        let Stepped::Gave {
             node: _,
             value,
             next,

@@ -39,8 +39,8 @@ use Rattle.listings.specs.declared.answers.Kind.{Kind}
 use Rattle.listings.specs.declared.answers.Kind.TheVariants as kinds
 use Rattle.listings.specs.declared.answers.Cursor.{Cursor}
 use Rattle.listings.specs.declared.answers.Cursor.TheVariants.{Open, Finished}
-use Rattle.listings.specs.declared.answers.Step.{Step}
-use Rattle.listings.specs.declared.answers.Step.TheVariants as steps
+use Rattle.listings.specs.declared.answers.Stepped.{Stepped}
+use Rattle.listings.specs.declared.answers.Stepped.TheVariants as steps
 use Rattle.listings.specs.Answers.{said_cursor, said_started, said_stepped}
 use Rattle.listings.specs.Cursors.{set_of, belongs, start_says, next_in, says_step, step_in, step_says}
 use Rattle.listings.specs.GivenKey.{key_of, key_says, key_out}
@@ -117,7 +117,7 @@ abbrev end_of : Cursor → Cursor
 end_of (Open kind top last) = Finished kind
 end_of (Finished kind) = Finished kind
 
-abbrev stepped_to : Map → Cursor → Option Entry → Step
+abbrev stepped_to : Map → Cursor → Option Entry → Stepped
 stepped_to m c None = steps.End (end_of c)
 stepped_to m c (Some e) = steps.Gave (node_of m e.0) e.1 (cursor_after m c e)
 
@@ -129,7 +129,7 @@ step_in_lem m (Open kind top last) = go (next_in m (set_of m kind (path_of m top
     go (Some e) = refl
 step_in_lem m (Finished kind) = refl
 
-stands-step : (i : Image) → MapImage i → (c : Cursor) (rest : Map) → Stands i c rest → (r : Result Step Refusal) → said_stepped r ≡ step_says i c → r ≡ Ok (stepped_to (image_map i) c (head_of rest))
+stands-step : (i : Image) → MapImage i → (c : Cursor) (rest : Map) → Stands i c rest → (r : Result Stepped Refusal) → said_stepped r ≡ step_says i c → r ≡ Ok (stepped_to (image_map i) c (head_of rest))
 unfolding step_says
 stands-step i image c rest s r h =
     let m : Map = image_map i in
@@ -186,7 +186,7 @@ module _ (i : Image) (image : MapImage i) (out₀ : List ℕ) where
         let long : length l.s + length (map_text l.rest) ≡ length (map_text m) = sym (length-append l.s (map_text l.rest)) ∙ ap length l.whole in
         omega (arith, e, fits, long, ap length o, length_over l.s out₀ (omega (arith, fits, long)))
 
-    pub listing-ends : (r : Result Step Refusal) → said_stepped r ≡ step_says i c → ((n v : ℕ) (d : Cursor) → ¬ (r ≡ Ok (steps.Gave n v d))) → Put (map_text m) out₀ at out
+    pub listing-ends : (r : Result Stepped Refusal) → said_stepped r ≡ step_says i c → ((n v : ℕ) (d : Cursor) → ¬ (r ≡ Ok (steps.Gave n v d))) → Put (map_text m) out₀ at out
     unfolding map_text
     listing-ends r h none-given = go l.rest refl
       where
@@ -203,7 +203,7 @@ module _ (i : Image) (image : MapImage i) (out₀ : List ℕ) where
     unfolding map_text
     listing-turn fits n v next h = go l.rest refl
       where
-        is : ◌≡◌ {A = Result Step Refusal} (Ok (steps.Gave n v next)) (Ok (stepped_to m c (head_of l.rest)))
+        is : ◌≡◌ {A = Result Stepped Refusal} (Ok (steps.Gave n v next)) (Ok (stepped_to m c (head_of l.rest)))
         is = stands-step i image c l.rest l.stands (Ok (steps.Gave n v next)) h
 
         turn : (e : Entry) (rest : Map) → l.rest ≡ e ∷ rest → v ≡ e.1 → (d : Cursor) → cursor_after m c e ≡ d → Turn i out₀ c at out v d
@@ -256,10 +256,10 @@ module _ (i : Image) (image : MapImage i) (out₀ : List ℕ) where
 
         go : (rest : Map) → l.rest ≡ rest → Turn i out₀ c at out v next
         go [] q =
-            let none-given : ◌≡◌ {A = Result Step Refusal} (Ok (steps.Gave n v next)) (Ok (steps.End (end_of c))) = is ∙ ap (λ (x : Map). Ok (stepped_to m c (head_of x))) q in
+            let none-given : ◌≡◌ {A = Result Stepped Refusal} (Ok (steps.Gave n v next)) (Ok (steps.End (end_of c))) = is ∙ ap (λ (x : Map). Ok (stepped_to m c (head_of x))) q in
             let z : ◌≡◌ {A = ℕ} 0 1 = cc in absurd (omega arith)
         go (e ∷ rest) q =
-            let gave : ◌≡◌ {A = Result Step Refusal} (Ok (steps.Gave n v next)) (Ok (steps.Gave (node_of m e.0) e.1 (cursor_after m c e))) = is ∙ ap (λ (x : Map). Ok (stepped_to m c (head_of x))) q in
+            let gave : ◌≡◌ {A = Result Stepped Refusal} (Ok (steps.Gave n v next)) (Ok (steps.Gave (node_of m e.0) e.1 (cursor_after m c e))) = is ∙ ap (λ (x : Map). Ok (stepped_to m c (head_of x))) q in
             let value : v ≡ e.1 = cc in
             let to-next : cursor_after m c e ≡ next = cc in
             turn e rest q value next to-next

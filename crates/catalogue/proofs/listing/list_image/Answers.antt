@@ -8,7 +8,7 @@ use Rattle.keymap.specs.Buffers.{over}
 use Rattle.lines.specs.Writing.{tab_text}
 use Rattle.image.specs.Meaning.{image_in}
 use Rattle.std.specs.Prelude.{Ok}
-use Rattle.listings.specs.declared.answers.Step.{Step}
+use Rattle.listings.specs.declared.answers.Stepped.{Stepped}
 use Rattle.climbs.specs.Spelling.{said_spelled}
 use Rattle.listings.specs.Answers.{said_started, said_stepped}
 use Rattle.climbs.proofs.Laws.Spelling.{said_spelled-one}
@@ -22,7 +22,7 @@ wrote-length n k e = cc
 -- what the step gave, and what is then put
 turn : (c : In-Gave) → Turn (image_in c.args.labels c.args.values c.args.words) c.args.out.now c.loop-given.cursor c.loop-given.at c.loop-given.out c.in-Gave.value c.in-Gave.next
 turn c =
-    listing-turn (image_in c.args.labels c.args.values c.args.words) c.requires.of_map c.args.out.now _ _ _ c.loop-given.invariant.1 c.requires.room _ _ _ (ap (λ (s : Step). said_stepped (Ok s)) (sym c.in-Gave.is) ∙ c.in-Ok-step.ensures.answer)
+    listing-turn (image_in c.args.labels c.args.values c.args.words) c.requires.of_map c.args.out.now _ _ _ c.loop-given.invariant.1 c.requires.room _ _ _ (ap (λ (s : Stepped). said_stepped (Ok s)) (sym c.in-Gave.is) ∙ c.in-Ok-step.ensures.answer)
 
 pub predictive_search-requires : goal.predictive_search-requires
 predictive_search-requires c = tt

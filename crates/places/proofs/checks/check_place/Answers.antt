@@ -15,12 +15,6 @@ use Rattle.walks.proofs.Laws.MapImage.{is_node-is}
 use Rattle.places.proofs.checks.check_place.Goals.{In_ok-accept}
 use Rattle.places.proofs.checks.check_place.Goals as goal
 
-pub returns-in_err-accept : goal.returns-in_err-accept
-returns-in_err-accept c =
-    let (fails, number) = accepted-err _ _ (sym c.accept.ensures.tested ∙ c.in_err-accept.was) in
-    let passed = err_from_is_err_and c.from_residual.result c.from_residual.ensures.1 in
-    rw fails (passed.1 ∙ ap Err (passed.2 ∙ number))
-
 -- past the first test the image is a map's
 tested : (c : In_ok-accept) → image_test (image_in c.args.labels c.args.values c.args.words) ≡ true
 tested c = accepted-ok _ _ (sym c.accept.ensures.tested ∙ c.in_ok-accept.was)

@@ -19,13 +19,6 @@ use Rattle.places.proofs.Laws.Moves.{follow-end, ends-empty, ends_some, follow-s
 use Rattle.places.proofs.moves.follow.Goals.{After-down, After-loop-j, then-is_empty, else-is_empty}
 use Rattle.places.proofs.moves.follow.Goals as goal
 
-pub loop-j-init : goal.loop-j-init
-loop-j-init c =
-    let i = image_in c.args.labels c.args.values c.args.words in
-    let told = c.stand_at-s.ensures in
-    let same = ap (λ (s : Stand). s.node) told in
-    (told ∙ ap (stand_in i) (sym same), ap (λ k. follow_from i c.args.query.now 0 k) (sym same))
-
 -- what a step answers, by the rule
 step : (c : After-down) (t : Option Stand) → c.down.result ≡ t
     → reached_at (bit c.args.words.now) (bits_for (length c.args.labels.now))

@@ -1,14 +1,12 @@
 -- `places::checks::check_place` meets its contract: 6 of an image that no map has, then 7 of a number that is no node's. Assumes nothing.
-use mathlib.Core.Path.{◌≡◌, refl, sym, ap, ◌∙◌}
+use mathlib.Core.Path.{◌≡◌, refl, sym, ◌∙◌}
 use mathlib.Core.Bool.{Bool, true}
 use lib.ListN.{length}
-use Rattle.std.specs.Prelude.{Err}
-use Rattle.std.proofs.lemmas.Result.{err_from_is_err_and}
 use Rattle.keymap.specs.Paths.{is_node}
 use Rattle.keymap.specs.Decode.{image_map}
 use Rattle.image.specs.AcceptTest.{image_test}
 use Rattle.image.specs.Meaning.{image_in, MapImage}
-use Rattle.image.proofs.Laws.AcceptAnswer.{accepted-ok, accepted-err}
+use Rattle.image.proofs.Laws.AcceptAnswer.{accepted-ok}
 use Rattle.image.proofs.Laws.Meaning.{tested-map_image}
 use Rattle.walks.specs.Rule.{is_node_of}
 use Rattle.walks.proofs.Laws.MapImage.{is_node-is}

@@ -14,7 +14,7 @@ use Rattle.walks.specs.declared.stands.Stand.{Stand}
 use Rattle.walks.specs.Rule.{child_by}
 use Rattle.walks.specs.Stands.{down_from, reached_at}
 use Rattle.walks.proofs.Laws.Stands.{down_rule, reached_at-to, reached_at-lost}
-use Rattle.places.specs.Moves.{stand_in, answer_by, follow_ends, follow_from, follow_by}
+use Rattle.places.specs.Moves.{answer_by, follow_ends, follow_from, follow_by}
 use Rattle.places.proofs.Laws.Moves.{follow-end, ends-empty, ends_some, follow-stops, follow-on}
 use Rattle.places.proofs.moves.follow.Goals.{After-down, After-loop-j, then-is_empty, else-is_empty}
 use Rattle.places.proofs.moves.follow.Goals as goal

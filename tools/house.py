@@ -17,12 +17,13 @@ WIDTH = 120
 
 
 def needs(crate):
-    """The modules of a crate, each with those that it imports from. What is imported as `crate::Name` stands in lib or main."""
+    """The modules of a crate, each with those that it imports from. What is imported as `crate::Name` stands in lib or main; `crate::specs` and
+    `crate::proofs`, in an attribute for the prover, are no modules of the code."""
     texts = {file.stem: re.sub(r'//.*', '', file.read_text('utf-8')) for file in (crate / 'src').glob('*.rt')}
     top = 'main' if 'main' in texts else 'lib'
     found = {}
     for module, text in texts.items():
-        names = {name if name in texts else top for name in re.findall(r'\bcrate::(\w+)', text)}
+        names = {name if name in texts else top for name in re.findall(r'\bcrate::(?!specs\b|proofs\b)(\w+)', text)}
         if module == top:
             names |= set(re.findall(r'^\s*(?:pub )?use (\w+)::', text, re.M)) & set(texts)
         found[module] = names - {module}

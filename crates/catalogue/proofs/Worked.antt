@@ -1,13 +1,11 @@
 -- What the program writes, computed, and its limits with their numbers written out. Assumes nothing.
 use mathlib.Core.Path.{◌≡◌, refl}
 use Prim.Native.Nat.{ℕ, ◌≤◌}
-use mathlib.Core.Bool.{true, false}
 use mathlib.Core.List.{List, [], ◌∷◌, map}
-use Rattle.std.specs.Prelude.{None, Some}
+use Rattle.std.specs.Prelude.{Option, None, Some}
 use Prim.Native.String.{String}
 use native.Mathlib.Omega.{arith}
 use lib.ListN.{length}
-use lib.IntN.{ℤ, pos, negsuc}
 use borrow.Author.Tests.{lt-ltb, le-ltb}
 use Rattle.keymap.specs.Key.{compare_keys}
 use Rattle.keymap.specs.Map.{insert, insert_all}
@@ -19,6 +17,7 @@ use Rattle.lines.specs.Text.{lines_of, entry_lines}
 use Rattle.lines.specs.Writing.{tab_line, tab_text, map_text}
 use Rattle.lines.proofs.Worked.{ascii}
 use Rattle.catalogue.specs.declared.reading.Reading.{Reading}
+use Rattle.catalogue.specs.declared.reading.Stage.{Stage}
 use Rattle.catalogue.specs.TextAnswers.{text_from, text_says, entries_in, text_map}
 use Rattle.catalogue.specs.Program.{refused_text, answer_text, program_text}
 use Rattle.catalogue.specs.Reading.{nothing_read, take_read}
@@ -63,26 +62,26 @@ pub worked-limits : (text : List ℕ) → length text ≤ 65536 → program_text
 unfolding text_says program_text
 worked-limits text h = rw (le-ltb 65536 (length text) h)
 
--- what reads answered in turn, how far the file is read, whether no read is wanted any more, and whether it was read whole
+-- what reads gave in turn, none where one failed, how far the file is read, and what is known of it
 abbrev Reads : Type 0
-Reads = List ℤ × Reading
+Reads = List (Option ℕ) × Reading
 
 abbrev readings : List Reads
 readings =
-    ([], record { done = 0; over = false; whole = false })
-    ∷ (pos 0 ∷ [], record { done = 0; over = true; whole = true })
-    ∷ (negsuc 0 ∷ [], record { done = 0; over = true; whole = false })
-    ∷ (pos 9 ∷ [], record { done = 9; over = false; whole = false })
-    ∷ (pos 9 ∷ pos 0 ∷ [], record { done = 9; over = true; whole = true })
-    ∷ (pos 9 ∷ negsuc 0 ∷ [], record { done = 9; over = true; whole = false })
-    ∷ (pos 65536 ∷ pos 0 ∷ [], record { done = 65536; over = true; whole = true })
-    ∷ (pos 65536 ∷ pos 1 ∷ [], record { done = 65537; over = true; whole = true })
-    ∷ (pos 65537 ∷ negsuc 0 ∷ [], record { done = 65537; over = true; whole = true })
+    ([], record { done = 0; stage = Stage.Open })
+    ∷ (Some 0 ∷ [], record { done = 0; stage = Stage.Whole })
+    ∷ (None ∷ [], record { done = 0; stage = Stage.Failed })
+    ∷ (Some 9 ∷ [], record { done = 9; stage = Stage.Open })
+    ∷ (Some 9 ∷ Some 0 ∷ [], record { done = 9; stage = Stage.Whole })
+    ∷ (Some 9 ∷ None ∷ [], record { done = 9; stage = Stage.Failed })
+    ∷ (Some 65536 ∷ Some 0 ∷ [], record { done = 65536; stage = Stage.Whole })
+    ∷ (Some 65536 ∷ Some 1 ∷ [], record { done = 65537; stage = Stage.Whole })
+    ∷ (Some 65537 ∷ None ∷ [], record { done = 65537; stage = Stage.Whole })
     ∷ []
 
-abbrev after : Reading → List ℤ → Reading
+abbrev after : Reading → List (Option ℕ) → Reading
 after r [] = r
-after r (got ∷ gots) = after (take_read r got) gots
+after r (read ∷ reads) = after (take_read r read) reads
 
 pub worked-readings : map (λ (t : Reads). after nothing_read t.0) readings ≡ map (λ (t : Reads). t.1) readings
 worked-readings = refl

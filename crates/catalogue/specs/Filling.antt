@@ -8,9 +8,9 @@
 --     fill_pool              what a pool is after a reset and the lines of a text
 --     HeldIf                 what the pool then holds
 -- Assumes nothing.
-use Rattle.std.specs.Prelude.{ℕ, suc, ◌≡◌, cond, List, [], ◌∷◌, ◌++◌, Option, None, Some}
+use Rattle.std.specs.Prelude.{ℕ, suc, ◌≡◌, cond, List, [], ◌∷◌, ◌++◌, Option, None, Some, Result, Ok, Err}
 use Rattle.keymap.specs.Map.{Entry}
-use Rattle.keymap.specs.Refusals.{refuses}
+use Rattle.keymap.specs.Refusals.{refusal_number, refuses}
 use Rattle.keymap.specs.declared.refusals.Refusal.{Refusal}
 use Rattle.records.specs.Words.{Pool}
 use Rattle.records.specs.Sound.{Sound}
@@ -20,12 +20,12 @@ use Rattle.pool.specs.Reset.{reset_pool}
 use Rattle.pool.specs.Push.{push_says, push_pool}
 use Rattle.lines.specs.TabLine.{tab_entry}
 use Rattle.lines.specs.Text.{entry_lines}
-use Rattle.catalogue.specs.declared.filling.Filled.{Filled}
+use Rattle.catalogue.specs.declared.filling.Refused.{Refused}
 use Rattle.catalogue.specs.TextAnswers.{text_map}
 
-abbrev pub said_filled : Filled → List ℕ
-said_filled Filled.Done = 0 ∷ []
-said_filled (Filled.Refused number line) = number ∷ line ∷ []
+abbrev pub said_filled : Result (Unit {0}) Refused → List ℕ
+said_filled (Ok u) = 0 ∷ []
+said_filled (Err r) = refusal_number r.refusal ∷ r.line ∷ []
 
 abbrev pub line_says : Pool → Option Entry → List ℕ
 line_says p None = refuses Refusal.BadLine
@@ -50,6 +50,6 @@ unfoldable pub fill_pool : Pool → List ℕ → Pool
 fill_pool p text = left_from (reset_pool p) (entry_lines text)
 
 -- a text that is pushed whole leaves a sound pool that holds the map of its entries
-abbrev pub HeldIf : Filled → Pool → List ℕ → Type 0
-HeldIf Filled.Done p text = Sound p × (pool_map p ≡ text_map text)
-HeldIf (Filled.Refused number line) p text = Unit {0}
+abbrev pub HeldIf : Result (Unit {0}) Refused → Pool → List ℕ → Type 0
+HeldIf (Ok u) p text = Sound p × (pool_map p ≡ text_map text)
+HeldIf (Err r) p text = Unit {0}

@@ -15,10 +15,10 @@ ghost use Rattle.catalogue.specs.Reading.{what_read};
 ghost use Rattle.catalogue.specs.Program.{program_text};
 ghost use Rattle.catalogue.specs.Rooms.{program_pool, built_from};
 
-use crate::filling::{Filled, fill};
+use crate::filling::fill;
 use crate::listing::list_pool;
 use crate::putting::{put_refused, put_text};
-use crate::reading::Reading;
+use crate::reading::{Reading, Stage};
 pub use sizes::{CAPACITY, FILE_LIMIT, FILE_ROOM, IMAGE_WORDS, OUT_ROOM, POOL_WORDS};
 
 // Puts what the program writes of a file at the start of `out` and answers how many bytes that is. The file's bytes
@@ -41,16 +41,15 @@ pub fn answer(
     ensures words { words.new ≡ of_lent (build_words (built_from reading text pool)) labels values words scratch }
     ensures scratch { scratch.new ≡ of_lent (build_scratch (built_from reading text pool)) labels values words scratch }
 {
-    if !reading.whole {
+    let Stage::Whole = reading.stage else {
         return put_text(b"no file\n", 0, out);
-    }
-    let room: &[u8] = text;
+    };
     let length = reading.done;
     if FILE_LIMIT < length {
         return put_text(b"too long\n", 0, out);
     }
-    match fill(&room[..length], pool) {
-        Filled::Refused { number, line } => put_refused(number, line, out),
-        Filled::Done => list_pool(pool, labels, values, words, scratch, out),
+    match fill(&text[..length], pool) {
+        Ok(()) => list_pool(pool, labels, values, words, scratch, out),
+        Err(refused) => put_refused(refused.refusal.number(), refused.line, out),
     }
 }

@@ -9,9 +9,7 @@ ghost use Rattle.image.specs.Meaning.{image_in, lent_image, MapImage};
 ghost use Rattle.lines.specs.Writing.{map_text};
 
 use crate::putting::put_value;
-use climbs::answers::Spelled;
-use image::answers::Built;
-use listings::answers::{Started, Stepped};
+use listings::answers::Stepped;
 use listings::{cursor_key, predictive_search, step};
 
 // Builds the image of a pool's map and puts its listing at the start of `out`; answers the listing's length.
@@ -32,7 +30,7 @@ pub fn list_pool(
     ensures words { words.new ≡ of_lent (build_words pool.now) labels values words scratch }
     ensures scratch { scratch.new ≡ of_lent (build_scratch pool.now) labels values words scratch }
 {
-    let Built::Nodes(n) = image::build(pool, labels, values, words, scratch) else {
+    let Ok(n) = image::build(pool, labels, values, words, scratch) else {
         return 0;
     };
     let nodes = n as usize;
@@ -52,24 +50,24 @@ fn list_image(labels: &[u16], values: &[u32], words: &[u64], out: &mut [u8]) -> 
     ensures answer { result ≡ length (map_text (image_map (lent_image labels values words))) }
     ensures out { out.new ≡ over (map_text (image_map (lent_image labels values words))) out.old }
 {
-    let Started::At(start) = predictive_search(labels, values, words, b"") else {
+    let Ok(mut cursor) = predictive_search(labels, values, words, b"") else {
         return 0;
     };
-    let mut cursor = start;
     let mut at = 0;
-    loop {
+    while let Ok(given) = step(labels, values, words, cursor) {
         let Stepped::Gave {
             node: _,
             value,
             next,
-        } = step(labels, values, words, cursor)
+        } = given
         else {
             return at;
         };
-        let Spelled::Wrote(spelled) = cursor_key(labels, values, words, next, &mut out[at..]) else {
+        let Ok(length) = cursor_key(labels, values, words, next, &mut out[at..]) else {
             return at;
         };
-        at = put_value(value, at + spelled, out);
+        at = put_value(value, at + length, out);
         cursor = next;
     }
+    at
 }

@@ -18,18 +18,19 @@ pub fn put_refused(number: u32, line: usize, out: &mut [u8]) -> usize
     put_text(b"\n", whole, out)
 }
 
-// Puts what stands behind the key in the line of an entry at a position and answers where it ends.
+// Puts what stands behind the key in the line of an entry at a position and answers where it ends: the line of the
+// empty key.
 pub fn put_value(value: u32, at: usize, out: &mut [u8]) -> usize
     requires { at + length (tab_text ([], value)) ≤ length out.old }
     ensures answer { result ≡ at + length (tab_text ([], value)) }
     ensures left { out.new ≡ take at out.old ++ over (tab_text ([], value)) (drop at out.old) }
 {
-    let tabbed = put_text(b"\t", at, out);
-    let numbered = put_number(value as u64, tabbed, out);
-    put_text(b"\n", numbered, out)
+    at + lines::write_line(b"", value, &mut out[at..]).unwrap()
 }
 
 // Puts the digits of a number at a position and answers where they end.
+// `lines` puts digits too, those of an entry's number of 32 bits. It stays a function beside it: a line's number is a
+// usize, and for it `lines` would have to open a public call of any number, with a promise that nobody else asks for.
 fn put_number(number: u64, at: usize, out: &mut [u8]) -> usize
     requires { at + length (decimal number) ≤ length out.old }
     ensures answer { result ≡ at + length (decimal number) }
@@ -46,10 +47,7 @@ pub fn put_text(text: &[u8], at: usize, out: &mut [u8]) -> usize
     ensures answer { result ≡ at + length text.now }
     ensures left { out.new ≡ take at out.old ++ over text.now (drop at out.old) }
 {
-    let mut i = 0;
-    while i < text.len() {
-        out[at + i] = text[i];
-        i += 1;
-    }
-    at + i
+    let end = at + text.len();
+    out[at..end].copy_from_slice(text);
+    end
 }

@@ -1,7 +1,6 @@
 // A file read piece by piece into a room of one byte more than the longest that is taken. What each read tells is
 // decided here:
-// a negative count is a read that failed, 0 is the file's end, and a room that is full is that of a file which is too
-// long.
+// a count of 0 is the file's end, and a room that is full is that of a file which is too long.
 ghost use Rattle.std.specs.Prelude.{◌≡◌};
 ghost use Rattle.catalogue.specs.Reading.{nothing_read, next_at, take_read};
 
@@ -12,10 +11,17 @@ use crate::sizes::FILE_ROOM;
 pub struct Reading {
     // So many bytes of the file stand at the start of the room.
     pub(crate) done: usize,
-    // No further read is wanted.
-    pub(crate) over: bool,
-    // And the file was read to its end, or until the room was full.
-    pub(crate) whole: bool,
+    pub(crate) stage: Stage,
+}
+
+#[derive(Clone, Copy)]
+pub(crate) enum Stage {
+    // A further read is wanted.
+    Open,
+    // The file was read to its end, or until the room was full.
+    Whole,
+    // It could not be read.
+    Failed,
 }
 
 // Nothing is read yet.
@@ -24,8 +30,7 @@ pub fn begin() -> Reading
 {
     Reading {
         done: 0,
-        over: false,
-        whole: false,
+        stage: Stage::Open,
     }
 }
 
@@ -33,47 +38,42 @@ pub fn begin() -> Reading
 pub fn next_at(reading: Reading) -> usize
     ensures { result ≡ next_at reading }
 {
-    if reading.over {
-        return FILE_ROOM;
+    match reading.stage {
+        Stage::Open => reading.done,
+        Stage::Whole | Stage::Failed => FILE_ROOM,
     }
-    reading.done
 }
 
-// After a read that answered `got`, as the system's read does.
-pub fn take_read(reading: Reading, got: isize) -> Reading
-    ensures { result ≡ take_read reading got }
+// After a read that gave so many bytes, or failed.
+pub fn take_read(reading: Reading, read: Option<usize>) -> Reading
+    ensures { result ≡ take_read reading read }
 {
-    if reading.over {
+    let Stage::Open = reading.stage else {
         return reading;
-    }
+    };
     let done = reading.done;
-    if got < 0 {
-        return Reading {
+    match read {
+        None => Reading {
             done,
-            over: true,
-            whole: false, // it could not be read
-        };
-    }
-    let more = got as usize;
-    if more == 0 {
-        return Reading {
+            stage: Stage::Failed,
+        },
+        Some(0) => Reading {
             done,
-            over: true,
-            whole: true,
-        };
-    }
-    if more < FILE_ROOM {
-        if done < FILE_ROOM - more {
-            return Reading {
-                done: done + more,
-                over: false,
-                whole: false,
-            };
+            stage: Stage::Whole,
+        },
+        Some(more) => {
+            let filled = done.saturating_add(more);
+            if filled < FILE_ROOM {
+                Reading {
+                    done: filled,
+                    stage: Stage::Open,
+                }
+            } else {
+                Reading {
+                    done: FILE_ROOM,
+                    stage: Stage::Whole,
+                }
+            }
         }
-    }
-    Reading {
-        done: FILE_ROOM,
-        over: true,
-        whole: true,
     }
 }

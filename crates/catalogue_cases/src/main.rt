@@ -9,7 +9,7 @@ ghost use Rattle.std.specs.Prelude.{◌≤◌, length};
 
 use catalogue::reading::{begin, take_read};
 use catalogue::{CAPACITY, FILE_ROOM, IMAGE_WORDS, OUT_ROOM, POOL_WORDS, answer};
-use lines::answers::Cut;
+use lines::answers::Line;
 use replay::lists::read_list;
 use replay::printing::text;
 
@@ -41,22 +41,16 @@ fn put(case: u8, from: usize, room: &mut [u8]) -> usize
     requires { from ≤ length room.old }
     ensures { result ≤ length room.new }
 {
-    let mut left = match case {
+    let count = match case {
         b'!' => 0,
         b'A' => 2048,
         b'F' => 65536,
         _ => 1,
     };
-    let mut at = from;
-    while 0 < left {
-        if room.len() <= at {
-            return at;
-        }
-        room[at] = byte_of(case, left);
-        at += 1;
-        left -= 1;
+    for (byte, left) in room[from..].iter_mut().zip((1..=count).rev()) {
+        *byte = byte_of(case, left);
     }
-    at
+    room.len().min(from + count)
 }
 
 // Puts the text of a case at the start of the room, as far as it goes, and answers its length.
@@ -64,10 +58,8 @@ fn expand(case: &[u8], room: &mut [u8]) -> usize
     ensures { result ≤ length room.new }
 {
     let mut at = 0;
-    let mut i = 0;
-    while i < case.len() {
-        at = put(case[i], at, room);
-        i += 1;
+    for byte in case {
+        at = put(*byte, at, room);
     }
     at
 }
@@ -98,21 +90,18 @@ fn run_cases(
     out: &mut [u8; OUT_ROOM],
 ) {
     let mut at = 0;
-    loop {
-        let Cut::Line { end, next } = lines::next_line(cases, at) else {
-            return;
-        };
-        let read = expand(&cases[at..end], text);
-        let mut last = 0;
-        if at < end {
-            if cases[at] == b'!' {
-                last = -1;
-            }
-        }
+    while let Some(Line { end, next }) = lines::next_line(cases, at) {
+        let case = &cases[at..end];
+        let length = expand(case, text);
         let mut reading = begin();
-        if read != 0 {
-            reading = take_read(reading, read as isize);
+        if length != 0 {
+            reading = take_read(reading, Some(length));
         }
+        let last = if case.starts_with(b"!") {
+            None
+        } else {
+            Some(0)
+        };
         reading = take_read(reading, last);
         let length = answer(reading, text, pool, labels, values, words, scratch, out);
         show(rt, out, length);

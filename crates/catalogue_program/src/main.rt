@@ -12,9 +12,6 @@ use std::fs::File;
 use std::io::Read;
 use std::rt::Files;
 
-// What a read that failed answers.
-const FAILED: isize = -1;
-
 // Reads a file into the room until no read is wanted any more. One that cannot be opened is as one whose first read
 // fails.
 fn read_file(rt: &impl Files, name: &str, room: &mut [u8]) -> Reading
@@ -23,7 +20,7 @@ fn read_file(rt: &impl Files, name: &str, room: &mut [u8]) -> Reading
 {
     match File::open(rt, name) {
         Ok(mut file) => read_all(&mut file, room),
-        Err(_) => take_read(begin(), FAILED),
+        Err(_) => take_read(begin(), None),
     }
 }
 
@@ -35,11 +32,7 @@ fn read_all(file: &mut impl Read, room: &mut [u8]) -> Reading
     let mut reading = begin();
     let mut at = next_at(reading);
     while at < FILE_ROOM {
-        let got = match file.read(&mut room[at..]) {
-            Ok(more) => more as isize,
-            Err(_) => FAILED,
-        };
-        reading = take_read(reading, got);
+        reading = take_read(reading, file.read(&mut room[at..]).ok());
         at = next_at(reading);
     }
     reading

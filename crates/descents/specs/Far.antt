@@ -18,7 +18,7 @@ use Rattle.louds.specs.Rank.{zeros_before}
 use Rattle.louds.specs.Select.{zero_from}
 use Rattle.descents.specs.declared.far.Passed.{Passed}
 use Rattle.descents.specs.declared.far.Kept.{Kept}
-use Rattle.descents.specs.declared.far.Gone.{Gone}
+use Rattle.descents.specs.declared.far.Headway.{Headway}
 use Rattle.walks.specs.declared.stands.Stand.{Stand}
 use Rattle.descents.specs.declared.queries.Ended.{Ended}
 use Rattle.descents.specs.declared.queries.Ended.TheVariants.{Near, At}
@@ -65,7 +65,7 @@ abbrev pub stand_near : (ℕ → ℕ) → ℕ → ℕ → ℕ → ℕ → Stand
 stand_near b len node kept left =
     record { node = node; zero = unwrap_or (zero_from b len ((kept - 1) * word_bits) left) len }
 
-abbrev pub went_on : List ℕ → (ℕ → ℕ) → ℕ → Key → Option Gone → Option Stand
+abbrev pub went_on : List ℕ → (ℕ → ℕ) → ℕ → Key → Option Headway → Option Stand
 went_on ls b len q None = None
 went_on ls b len q (Some g) =
     down_along ls b len (drop g.steps q) (Some (stand_near b len g.node g.kept g.left))

@@ -35,7 +35,7 @@ pub struct Kept {
 // How far whole words took a walk: to a node after some steps. The word kept is word kept-1, and from its start on the
 // node's zero is the `left`-th. Where `kept` is 0 no word is kept yet, and the zero is the `left`-th from bit 0 on.
 #[derive(Clone, Copy)]
-pub struct Gone {
+pub struct Headway {
     pub node: usize,
     pub steps: usize,
     pub kept: usize,
@@ -112,19 +112,21 @@ fn word_with_zero(words: &[u64], whole: usize, first: usize) -> Option<usize>
 }
 
 // Down from node 1 along a query, as far as the zeros stand in whole words.
-pub fn go_far(labels: &[u16], words: &[u64], len: usize, query: &[u8]) -> Option<Gone>
+pub fn go_far(labels: &[u16], words: &[u64], len: usize, query: &[u8]) -> Option<Headway>
     ensures { went_on labels.now (bit words.now) len query.now result
         ≡ reached_at (bit words.now) len
         (walked labels.now (bit words.now) len query.now) }
 {
     let whole = words.len().min(len / WORD_BITS);
     let mut node: usize = 1;
+    // no word yet: one zero is to be passed, from bit 0 on
     let mut kept = Kept {
         words: 0,
         left: 1,
         zeros: 0,
         sums: 0,
     };
+    // all of them, where none leads out of the whole words
     let mut steps = query.len();
     for i in 0..query.len() {
         if kept.zeros < kept.left {
@@ -150,7 +152,7 @@ pub fn go_far(labels: &[u16], words: &[u64], len: usize, query: &[u8]) -> Option
         kept.left += m - node;
         node = m;
     }
-    Some(Gone {
+    Some(Headway {
         node,
         steps,
         kept: kept.words,

@@ -5,11 +5,12 @@ ghost use Rattle.walks.specs.Rule.{walked};
 ghost use Rattle.walks.specs.Stands.{down_along, reached_at};
 ghost use Rattle.descents.specs.Far.{stand_near, ended_at};
 
-use crate::far::{Gone, go_far, stand_near};
+use crate::far::{Headway, go_far, stand_near};
 use walks::moves::down;
 use walks::stands::Stand;
 
-// Where a walk ended: at a node whose zero was not looked for yet, as whole words leave it (`far::Gone`), or at a stand.
+// Where a walk ended: at a node whose zero was not looked for yet, as whole words leave it (`far::Headway`), or at a
+// stand.
 #[derive(Clone, Copy)]
 enum Ended {
     Near {
@@ -36,6 +37,7 @@ fn go_on(
         (Some (stand_near (bit words.now) len node kept left)) }
 {
     let mut s = stand_near(words, len, node, kept, left);
+    // no step where `steps` is the query's length or more
     for j in steps..query.len() {
         s = down(labels, words, len, s, query[j])?;
     }
@@ -48,7 +50,7 @@ fn reach_end(labels: &[u16], words: &[u64], len: usize, query: &[u8]) -> Option<
         ≡ reached_at (bit words.now) len
         (walked labels.now (bit words.now) len query.now) }
 {
-    let Gone {
+    let Headway {
         node,
         steps,
         kept,

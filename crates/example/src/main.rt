@@ -2,15 +2,13 @@
 // README.md shows `main` and `list` as they stand here, and what the program writes.
 #![tactic(auto)]
 
-mod told;
-
-use told::{built, cleared, line, looked, pushed, used};
-use trie::{Spelled, Started, Stepped};
+use keymap::Refusal;
+use trie::Stepped;
 
 // The records besides the root.
 const CAPACITY: usize = 24;
 
-fn main(rt: HostRuntime) {
+fn main(rt: HostRuntime) -> Result<(), Refusal> {
     // All memory is lent: for each record 5 words, and 5 for the root; for each node a label, a value, a scratch word
     // and 2 bits, with 3 more.
     let mut pool = [0u32; 5 * (CAPACITY + 1)];
@@ -18,41 +16,54 @@ fn main(rt: HostRuntime) {
     let mut values = [0u32; CAPACITY];
     let mut words = [0u64; (2 * CAPACITY + 66) / 64];
     let mut scratch = [0u32; CAPACITY];
-    cleared(&rt, pool::reset(&mut pool));
-    pushed(&rt, pool::push(&mut pool, b"lobby/left", 7));
-    pushed(&rt, pool::push(&mut pool, b"lobby", 12));
-    let n = built(
-        &rt,
-        image::build(&pool, &mut labels, &mut values, &mut words, &mut scratch),
-    );
+    pool::reset(&mut pool)?;
+    pool::push(&mut pool, b"lobby/left", 7)?;
+    pool::push(&mut pool, b"lobby", 12)?;
+    let n = image::build(&pool, &mut labels, &mut values, &mut words, &mut scratch)? as usize;
+    line(&rt, b"nodes", n);
     let labels = &labels[..n];
     let values = &values[..n];
     let words = &words[..(2 * n + 66) / 64];
-    looked(&rt, trie::exact_match(labels, values, words, b"lobby"));
-    list(&rt, labels, values, words, b"lob");
-    line(&rt, b"left", CAPACITY - used(&rt, pool::use_count(&pool)));
+    match trie::exact_match(labels, values, words, b"lobby")? {
+        Some(value) => line(&rt, b"value", value as usize),
+        None => {
+            let _ = rt.println("no match");
+        }
+    }
+    list(&rt, labels, values, words, b"lob")?;
+    let used = pool::use_count(&pool)? as usize;
+    line(&rt, b"left", CAPACITY - used);
+    Ok(())
 }
 
 // Writes the keys that begin with a query, each with its value. There are no more of them than nodes.
-fn list(rt: &impl Print, labels: &[u16], values: &[u32], words: &[u64], query: &[u8]) {
+fn list(
+    rt: &impl Print,
+    labels: &[u16],
+    values: &[u32],
+    words: &[u64],
+    query: &[u8],
+) -> Result<(), Refusal> {
     let mut key = [0u8; CAPACITY];
-    let Started::At(start) = trie::predictive_search(labels, values, words, query) else {
-        return;
-    };
-    let mut cursor = start;
+    let mut cursor = trie::predictive_search(labels, values, words, query)?;
     for _ in 0..labels.len() {
         let Stepped::Gave {
             node: _,
             value,
             next,
-        } = trie::step(labels, values, words, cursor)
+        } = trie::step(labels, values, words, cursor)?
         else {
-            return;
+            break;
         };
-        let Spelled::Wrote(length) = trie::cursor_key(labels, values, words, next, &mut key) else {
-            return;
-        };
+        let length = trie::cursor_key(labels, values, words, next, &mut key)?;
         line(rt, &key[..length], value as usize);
         cursor = next;
     }
+    Ok(())
+}
+
+// A name, TAB and a number on a line. A write that fails is passed over.
+fn line(rt: &impl Print, name: &[u8], n: usize) {
+    let _ = rt.write_all(name);
+    let _ = println!(rt; "\t{n}");
 }

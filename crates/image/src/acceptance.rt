@@ -46,13 +46,9 @@ fn passes(labels: &[u16], values: &[u32], words: &[u64]) -> bool
 {
     let n = labels.len();
     // so every node that a bit names has its entry
-    if ones_before(words, 2 * n + 3) != n + 1 {
-        return false;
-    }
-    if !entries_fit(labels, values) {
-        return false;
-    }
-    words_fit(labels, words)
+    ones_before(words, 2 * n + 3) == n + 1
+        && entries_fit(labels, values)
+        && words_fit(labels, words)
 }
 
 // Whether there are at most 4,096 nodes besides the root, and as many values and words as these ask for.
@@ -64,7 +60,8 @@ pub fn lengths_fit(labels: &[u16], values: &[u32], words: &[u64]) -> bool
     n <= MOST_NODES && values.len() == n && words.len() == words_for(n as u32)
 }
 
-// Whether the slices are the image of some map.
+// Whether the slices are the image of some map. A test that fails ends it, since each is asked only where those before
+// it held; in one line of `&&` it would not be plainer.
 pub fn is_image(labels: &[u16], values: &[u32], words: &[u64]) -> bool
     ensures { result ≡ image_test (lent_image labels values words) }
 {

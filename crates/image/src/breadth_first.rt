@@ -30,7 +30,7 @@ fn record_at(queue: &[u32], k: usize) -> u32
 }
 
 // Puts the children of record c into the queue, from entry `tail` on, and a one for each into the bits, from place `at`
-// on. How many they are.
+// on. How many they are: only the 0 that ends their chain shows that, as it is the pool's format, so a `while`.
 fn queue_children(
     pool: &[u32],
     c: u32,
@@ -61,7 +61,8 @@ pub fn write_levels(pool: &[u32], n: u32, words: &mut [u64], queue: &mut [u32])
     ensures bits { words.new ≡ over (pool_words pool.now) words.old }
     ensures order { queue.new ≡ over (level_records pool.now) queue.old }
 {
-    clear(words, words_for(n));
+    let count = words_for(n);
+    clear(words, count);
     // the sequence begins with 1, 0
     put_one(words, 0);
     let mut at = 2;

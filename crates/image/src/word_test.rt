@@ -20,6 +20,7 @@ fn parents_fit(x: u64, at: usize, before: usize) -> bool
     if at + WORD_BITS <= 2 * before + ones_in(x) {
         return true;
     }
+    // the lowest one is taken off until none is left: a `for` over the 64 places would look at the zeros too
     let mut rest = x;
     let mut m = before;
     while rest != 0 {
@@ -58,6 +59,7 @@ fn siblings_fit(labels: &[u16], x: u64, prev: u64, before: usize) -> bool
     requires { SiblingsInside (length labels.now) x prev before }
     ensures { result ≡ all_below (sibling_at labels.now x prev before) word_bits }
 {
+    // a run at a time is taken off until none is left
     let mut y = x & prev;
     while y != 0 {
         let t = lowest_one(y);
@@ -89,7 +91,8 @@ fn leaves_fit(labels: &[u16], zeros: u64, lone: u64, before: usize) -> bool
         rest = rest & (rest - 1);
         m += 1;
     }
-    // all others are looked at, so that no branch is taken on which of them are lone
+    // all others are looked at, so that no branch is taken on which of them are lone; one is taken off at a time, as in
+    // `parents_fit`
     let mut bad: u64 = 0;
     while rest != 0 {
         let next = rest & (rest - 1);

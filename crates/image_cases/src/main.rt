@@ -8,174 +8,158 @@
 // alone of each buffer is written.
 #![tactic(auto)]
 
-ghost use Rattle.std.specs.Prelude.{◌≤◌};
+ghost use Rattle.std.specs.Prelude.{◌≤◌, length};
 
-use image::answers::Built;
-use replay::counts::of_values;
+use keymap::Refusal;
+use replay::entries::store;
 use replay::lists::read_list;
-use replay::memory::{LONGEST, show_labels, show_values, show_words, store_values};
-use replay::printing::{BAR, byte, number, text, word};
-use replay::text::{bytes, hex, letter, line_at, number as number_of};
+use replay::memory::{LONGEST, LentImage};
+use replay::parts::part;
+use replay::printing::{BAR, byte, number, show, text};
+use replay::text::{Case, lengths, line_of};
 
-// Where the lengths begin in a line, and where the name does.
+// Where the lengths begin in a line of a build, and where the name does.
 const LENGTHS: usize = 2;
 
 const NAME: usize = 19;
 
-fn built(rt: &impl Print, answer: Built) {
-    match answer {
-        Built::Nodes(n) => {
-            number(rt, 0);
-            number(rt, n as u64);
-        }
-        _ => number(rt, answer.number() as u64),
+// The most that a build is lent: each record's entries, and the words of their bits with one to spare.
+const ENTRIES: usize = 4096;
+
+const WORDS: usize = 129;
+
+// The number of a refusal, 0 where there is none.
+fn status<T: Drop>(answer: Result<T, Refusal>) -> u32 {
+    answer.err().map_or(0, |refusal| refusal.number())
+}
+
+fn built(rt: &impl Print, answer: Result<u32, Refusal>) {
+    number(rt, status(answer));
+    if let Ok(n) = answer {
+        number(rt, n);
     }
 }
 
-fn show(rt: &impl Print, labels: &[u16], values: &[u32], words: &[u64], scratch: &[u32]) {
-    word(rt, BAR);
-    show_labels(rt, labels, 0, u64::MAX);
-    word(rt, BAR);
-    show_values(rt, values, 0, u64::MAX);
-    word(rt, BAR);
-    show_words(rt, words, 0, u64::MAX);
-    word(rt, BAR);
-    show_values(rt, scratch, 0, u64::MAX);
+// The last entry, or nothing of no entries.
+fn last<T>(all: &[T]) -> &[T]
+    ensures { length result.now ≤ 1 }
+{
+    part(all, all.len().saturating_sub(1), 1)
 }
 
-// Where the last of so many entries is.
-fn last(count: usize) -> usize {
-    if count == 0 {
-        return 0;
-    }
-    count - 1
+// The four buffers, each behind a bar.
+fn show_all(rt: &impl Print, image: LentImage, scratch: &[u32]) {
+    text(rt, BAR);
+    show(rt, image.labels);
+    text(rt, BAR);
+    show(rt, image.values);
+    text(rt, BAR);
+    show(rt, image.words);
+    text(rt, BAR);
+    show(rt, scratch);
 }
 
-fn show_ends(rt: &impl Print, labels: &[u16], values: &[u32], words: &[u64], scratch: &[u32]) {
-    word(rt, BAR);
-    show_labels(rt, labels, last(labels.len()), 1);
-    show_values(rt, values, last(values.len()), 1);
-    show_words(rt, words, last(words.len()), 1);
-    show_values(rt, scratch, last(scratch.len()), 1);
+// The last entries alone.
+fn show_ends(rt: &impl Print, image: LentImage, scratch: &[u32]) {
+    text(rt, BAR);
+    show(rt, last(image.labels));
+    show(rt, last(image.values));
+    show(rt, last(image.words));
+    show(rt, last(scratch));
 }
 
 // What is written behind the answer of build.
-fn told(
-    rt: &impl Print,
-    line: &[u8],
-    labels: &[u16],
-    values: &[u32],
-    words: &[u64],
-    scratch: &[u32],
-) {
-    if letter(line) == b'e' {
-        show_ends(rt, labels, values, words, scratch);
+fn told(rt: &impl Print, letter: u8, image: LentImage, scratch: &[u32]) {
+    if letter == b'e' {
+        show_ends(rt, image, scratch);
     } else {
-        show(rt, labels, values, words, scratch);
+        show_all(rt, image, scratch);
     }
-    word(rt, BAR);
-    number(rt, image::accept(labels, values, words).number() as u64);
+    text(rt, BAR);
+    number(
+        rt,
+        status(image::accept(image.labels, image.values, image.words)),
+    );
     byte(rt, b'\n');
 }
 
+// What the buffers hold before: ones in all of their bits, but where the last entries alone are written.
+fn filling(letter: u8) -> u64 {
+    if letter == b'e' { 9 } else { u64::MAX }
+}
+
+// A build into as much of each buffer as the line says.
 fn build(
     rt: &impl Print,
-    line: &[u8],
+    case: Case,
     pool: &[u32],
     labels: &mut [u16],
     values: &mut [u32],
     words: &mut [u64],
     scratch: &mut [u32],
 ) {
-    text(rt, line_at(line, NAME));
+    let [a, b, c, d] = lengths(part(case.line, LENGTHS, 16));
+    let a = a.min(labels.len());
+    let b = b.min(values.len());
+    let c = c.min(words.len());
+    let d = d.min(scratch.len());
+    let labels = &mut labels[..a];
+    let values = &mut values[..b];
+    let words = &mut words[..c];
+    let scratch = &mut scratch[..d];
+    text(rt, part(case.line, NAME, case.line.len()));
     byte(rt, b':');
     built(rt, image::build(pool, labels, values, words, scratch));
-    told(rt, line, labels, values, words, scratch);
+    told(
+        rt,
+        case.letter,
+        LentImage {
+            labels,
+            values,
+            words,
+        },
+        scratch,
+    );
 }
 
-// What the buffers hold before: ones in all of their bits, but where the last entries alone are written.
-fn filling(line: &[u8]) -> u64 {
-    if letter(line) == b'e' {
-        return 9;
-    }
-    u64::MAX
-}
-
-// The smaller of two numbers.
-fn at_most(n: u64, most: usize) -> usize
-    ensures { result ≤ most }
-{
-    if (most as u64) < n { most } else { n as usize }
-}
-
-// A build into buffers of these lengths.
-fn sized(
-    rt: &impl Print,
-    line: &[u8],
-    pool: &[u32],
-    labels: usize,
-    values: usize,
-    words: usize,
-    scratch: usize,
-)
-    requires labels { labels ≤ 4096 }
-    requires values { values ≤ 4096 }
-    requires words { words ≤ 129 }
-    requires scratch { scratch ≤ 4096 }
-{
-    let fill = filling(line);
+// A build into buffers that are filled first.
+fn build_anew(rt: &impl Print, case: Case, pool: &[u32]) {
+    let fill = filling(case.letter);
     let short = (fill % 65536) as u16;
     let middle = (fill % 4294967296) as u32;
-    let mut label_room = [short; 4096];
-    let mut value_room = [middle; 4096];
-    let mut word_room = [fill; 129];
-    let mut scratch_room = [middle; 4096];
     build(
         rt,
-        line,
+        case,
         pool,
-        &mut label_room[..labels],
-        &mut value_room[..values],
-        &mut word_room[..words],
-        &mut scratch_room[..scratch],
+        &mut [short; ENTRIES],
+        &mut [middle; ENTRIES],
+        &mut [fill; WORDS],
+        &mut [middle; ENTRIES],
     );
 }
 
-// The same, with the lengths that the line says.
-fn case(rt: &impl Print, line: &[u8], pool: &[u32]) {
-    let lengths = hex(line, LENGTHS, 16);
-    sized(
-        rt,
-        line,
-        pool,
-        at_most(lengths >> 48, 4096),
-        at_most(lengths >> 32 & 65535, 4096),
-        at_most(lengths >> 16 & 65535, 129),
-        at_most(lengths & 65535, 4096),
-    );
-}
-
-fn push(line: &[u8], pool: &mut [u32]) {
+// What a push or a reset answers is passed over: the build behind them shows what they left.
+fn push(case: Case, pool: &mut [u32]) {
     let mut space = [0u8; LONGEST];
-    let n = bytes(line, &mut space);
-    pool::push(pool, &space[..n], number_of(line));
+    let n = case.key(&mut space);
+    let _ = pool::push(pool, &space[..n], case.number);
 }
 
 // A case, with as many words of the memory as are the pool; how many are from then on.
-fn answer(rt: &impl Print, line: &[u8], memory: &mut [u32], words: usize) -> usize {
-    let n = number_of(line) as usize;
-    let size = match letter(line) {
+fn answer(rt: &impl Print, case: Case, memory: &mut [u32], words: usize) -> usize {
+    let n = case.number as usize;
+    let size = match case.letter {
         b'n' | b'z' => n,
         _ => words,
     };
-    let p = of_values(memory, size);
-    match letter(line) {
+    let p = size.min(memory.len());
+    match case.letter {
         b'n' => {
-            pool::reset(&mut memory[..p]);
+            let _ = pool::reset(&mut memory[..p]);
         }
-        b'p' => push(line, &mut memory[..p]),
-        b'w' => store_values(memory, n, line),
-        b'b' | b'e' => case(rt, line, &memory[..p]),
+        b'p' => push(case, &mut memory[..p]),
+        b'w' => store(memory, n, case.digits),
+        b'b' | b'e' => build_anew(rt, case, &memory[..p]),
         _ => (),
     }
     size
@@ -183,12 +167,8 @@ fn answer(rt: &impl Print, line: &[u8], memory: &mut [u32], words: usize) -> usi
 
 fn replay(rt: &impl Print, list: &[u8], memory: &mut [u32]) {
     let mut words = 0;
-    let mut from = 0;
-    while from < list.len() {
-        let line = line_at(list, from);
-        from += line.len();
-        from += 1;
-        words = answer(rt, line, memory, words);
+    for piece in list.split_inclusive(|&byte| byte == b'\n') {
+        words = answer(rt, Case::new(line_of(piece)), memory, words);
     }
 }
 

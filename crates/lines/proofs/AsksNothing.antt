@@ -9,10 +9,6 @@ use Rattle.lines.specs.contracts.next_line
 use Rattle.lines.proofs.next_line.Reads as next-line-reads
 use Rattle.lines.specs.contracts.write_line
 use Rattle.lines.proofs.write_line.Reads as write-line-reads
-use Rattle.lines.specs.contracts.answers.Parsed.number as parsed-number
-use Rattle.lines.proofs.answers.Parsed.number.Reads as parsed-number-reads
-use Rattle.lines.specs.contracts.answers.Written.number as written-number
-use Rattle.lines.proofs.answers.Written.number.Reads as written-number-reads
 
 pub tab-line-asks-nothing : (κs : Lfts 1) (a : ArgsD tab_line.signature κs) → tab-line-reads.Pre κs a
 tab-line-asks-nothing κs a = tt
@@ -25,9 +21,3 @@ next-line-asks-nothing κs a = tt
 
 pub write-line-asks-nothing : (κs : Lfts 2) (a : ArgsD write_line.signature κs) → write-line-reads.Pre κs a
 write-line-asks-nothing κs a = tt
-
-pub parsed-number-asks-nothing : (κs : Lfts 0) (a : ArgsD parsed-number.signature κs) → parsed-number-reads.Pre κs a
-parsed-number-asks-nothing κs a = tt
-
-pub written-number-asks-nothing : (κs : Lfts 0) (a : ArgsD written-number.signature κs) → written-number-reads.Pre κs a
-written-number-asks-nothing κs a = tt

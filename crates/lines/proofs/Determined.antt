@@ -19,12 +19,6 @@ use Rattle.lines.proofs.next_line.Reads as next-line-reads
 use Rattle.lines.specs.contracts.write_line
 use Rattle.lines.proofs.write_line.Kinds as write-line-kinds
 use Rattle.lines.proofs.write_line.Reads as write-line-reads
-use Rattle.lines.specs.contracts.answers.Parsed.number as parsed-number
-use Rattle.lines.proofs.answers.Parsed.number.Kinds as parsed-number-kinds
-use Rattle.lines.proofs.answers.Parsed.number.Reads as parsed-number-reads
-use Rattle.lines.specs.contracts.answers.Written.number as written-number
-use Rattle.lines.proofs.answers.Written.number.Kinds as written-number-kinds
-use Rattle.lines.proofs.answers.Written.number.Reads as written-number-reads
 
 module _ (κs : Lfts 1) where
   pub tab-line-determined : (a : ArgsD tab_line.signature κs) (r₁ r₂ : ResD tab_line.signature κs) (s₁ s₂ : AtExit (ended_of 1 tab-line-kinds.ps tab-line-kinds.r) κs)
@@ -42,11 +36,3 @@ module _ (κs : Lfts 1) where
 pub write-line-determined : (κs : Lfts 2) (a : ArgsD write_line.signature κs) (r₁ r₂ : ResD write_line.signature κs) (s₁ s₂ : AtExit (ended_of 2 write-line-kinds.ps write-line-kinds.r) κs)
     → write-line-reads.Post κs a r₁ s₁ → write-line-reads.Post κs a r₂ s₂ → (r₁ ≡ r₂) × (s₁.1.1.0.now ≡ s₂.1.1.0.now)
 write-line-determined κs a r₁ r₂ s₁ s₂ p q = (said-written-one r₁ r₂ (p.0 ∙ sym q.0), p.1 ∙ sym q.1)
-
-module _ (κs : Lfts 0) (a : ArgsD parsed-number.signature κs) (r₁ r₂ : ResD parsed-number.signature κs) (s₁ s₂ : AtExit (ended_of 0 parsed-number-kinds.ps parsed-number-kinds.r) κs) where
-  pub parsed-number-determined : parsed-number-reads.Post κs a r₁ s₁ → parsed-number-reads.Post κs a r₂ s₂ → r₁ ≡ r₂
-  parsed-number-determined p q = p ∙ sym q
-
-module _ (κs : Lfts 0) (a : ArgsD written-number.signature κs) (r₁ r₂ : ResD written-number.signature κs) (s₁ s₂ : AtExit (ended_of 0 written-number-kinds.ps written-number-kinds.r) κs) where
-  pub written-number-determined : written-number-reads.Post κs a r₁ s₁ → written-number-reads.Post κs a r₂ s₂ → r₁ ≡ r₂
-  written-number-determined p q = p ∙ sym q

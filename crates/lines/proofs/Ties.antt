@@ -2,7 +2,6 @@
 -- Each tie is over the contract's own claim, so a contract that cites another definition breaks it. Assumes nothing.
 use mathlib.Core.Path.{◌≡◌}
 use Rattle.keymap.specs.Contract.{Tells}
-use Rattle.keymap.specs.Answers.{answer_number}
 use Rattle.lines.specs.Answers.{said_parsed, said_cut, said_written}
 use Rattle.lines.specs.TabLine.{tab_line_says, tab_line_key}
 use Rattle.lines.specs.Text.{next_line_says}
@@ -15,10 +14,6 @@ use Rattle.lines.proofs.next_line.Kinds as next-line-kinds
 use Rattle.lines.proofs.next_line.Reads as next-line-reads
 use Rattle.lines.proofs.write_line.Kinds as write-line-kinds
 use Rattle.lines.proofs.write_line.Reads as write-line-reads
-use Rattle.lines.proofs.answers.Parsed.number.Kinds as parsed-number-kinds
-use Rattle.lines.proofs.answers.Parsed.number.Reads as parsed-number-reads
-use Rattle.lines.proofs.answers.Written.number.Kinds as written-number-kinds
-use Rattle.lines.proofs.answers.Written.number.Reads as written-number-reads
 
 pub tab-line-says : Tells 1 tab-line-kinds.ps tab-line-kinds.r tab-line-reads.Post (λ κs a r s. said_parsed r ≡ tab_line_says a.0.now)
 tab-line-says κs a r s p = p
@@ -31,9 +26,3 @@ next-line-says κs a r s p = p
 
 pub write-line-says : Tells 2 write-line-kinds.ps write-line-kinds.r write-line-reads.Post (λ κs a r s. (said_written r ≡ write_line_says (a.0.now, a.1.0) a.1.1.0.now) × (s.1.1.0.now ≡ write_line_out (a.0.now, a.1.0) a.1.1.0.now))
 write-line-says κs a r s p = p
-
-pub parsed-number-says : Tells 0 parsed-number-kinds.ps parsed-number-kinds.r parsed-number-reads.Post (λ κs a r s. r ≡ answer_number (said_parsed a.0))
-parsed-number-says κs a r s p = p
-
-pub written-number-says : Tells 0 written-number-kinds.ps written-number-kinds.r written-number-reads.Post (λ κs a r s. r ≡ answer_number (said_written a.0))
-written-number-says κs a r s p = p

@@ -1,59 +1,16 @@
 // What the public calls answer.
-ghost use Rattle.std.specs.Prelude.{◌≡◌};
-ghost use Rattle.keymap.specs.Answers.{answer_number};
-ghost use Rattle.lines.specs.Answers.{said_parsed, said_written};
 
-// Of `tab_line`.
+// Of `tab_line`: the key is the line's first `key_len` bytes.
 #[derive(Clone, Copy)]
-pub enum Parsed {
-    // The key is the line's first `key_len` bytes.
-    Entry { key_len: usize, number: u32 },
-    // The line breaks the line rule.
-    BadLine,
+pub struct Entry {
+    pub key_len: usize,
+    pub number: u32,
 }
 
-impl Parsed {
-    // The number of a refusal, 0 where there is none.
-    pub fn number(self) -> u32
-        ensures { result ≡ answer_number (said_parsed self) }
-    {
-        match self {
-            Parsed::Entry {
-                key_len: _,
-                number: _,
-            } => 0,
-            Parsed::BadLine => 9,
-        }
-    }
-}
-
-// Of `next_line`.
+// Of `next_line`: the line goes from the position up to, not including, `end`, where its LF or the text's end is; the
+// next line begins at `next`.
 #[derive(Clone, Copy)]
-pub enum Cut {
-    // The line goes from the position up to, not including, `end`, where its LF or the text's end is; the next line
-    // begins at `next`.
-    Line { end: usize, next: usize },
-    // The position is at the text's end or past it.
-    NoLine,
-}
-
-// Of `write_line`.
-#[derive(Clone, Copy)]
-pub enum Written {
-    // So many bytes are the line's, its LF among them.
-    Length(usize),
-    // The buffer is shorter than the line to be written.
-    KeyRoom,
-}
-
-impl Written {
-    // The number of a refusal, 0 where there is none.
-    pub fn number(self) -> u32
-        ensures { result ≡ answer_number (said_written self) }
-    {
-        match self {
-            Written::Length(_) => 0,
-            Written::KeyRoom => 8,
-        }
-    }
+pub struct Line {
+    pub end: usize,
+    pub next: usize,
 }

@@ -14,29 +14,25 @@ ghost use Rattle.lines.specs.TabLine.{tab_line_says, tab_line_key};
 ghost use Rattle.lines.specs.Text.{next_line_says};
 ghost use Rattle.lines.specs.Writing.{write_line_says, write_line_out};
 
-use crate::answers::{Cut, Parsed, Written};
+use crate::answers::{Entry, Line};
 use crate::bytes::{LF, TAB, find};
-use crate::decimal::{Numeral, digit_count, number_in};
+use crate::decimal::{digit_count, number_in};
 use crate::writing::put_line;
+use keymap::Refusal;
 
 // Reads a line, which is given without its LF.
-pub fn tab_line(line: &[u8]) -> Parsed
+pub fn tab_line(line: &[u8]) -> Result<Entry, Refusal>
     ensures { said_parsed result ≡ tab_line_says line.now }
 {
-    let tab = find(line, 0, TAB);
-    if line.len() <= tab {
-        return Parsed::BadLine;
+    let tab = find(line, TAB).ok_or(Refusal::BadLine)?;
+    if find(&line[..tab], LF).is_some() {
+        return Err(Refusal::BadLine);
     }
-    if find(line, 0, LF) < tab {
-        return Parsed::BadLine;
-    }
-    match number_in(&line[tab + 1..]) {
-        Numeral::Number(number) => Parsed::Entry {
-            key_len: tab,
-            number,
-        },
-        Numeral::Broken => Parsed::BadLine,
-    }
+    let number = number_in(&line[tab + 1..]).ok_or(Refusal::BadLine)?;
+    Ok(Entry {
+        key_len: tab,
+        number,
+    })
 }
 
 // The key of a line, empty whenever `tab_line` refuses it.
@@ -44,36 +40,35 @@ pub fn tab_line_key(line: &[u8]) -> &[u8]
     ensures key { result.now ≡ tab_line_key line.now }
     ensures leading { result.ref_ptr ≡ line.entry.ref_ptr }
 {
-    match tab_line(line) {
-        Parsed::Entry { key_len, number: _ } => &line[..key_len],
-        Parsed::BadLine => &line[..0],
-    }
+    let length = tab_line(line).map_or(0, |entry| entry.key_len);
+    &line[..length]
 }
 
-// Cuts the line that begins at a position out of a text.
-pub fn next_line(text: &[u8], at: usize) -> Cut
+// Cuts the line that begins at a position out of a text. There is none at the text's end or past it.
+pub fn next_line(text: &[u8], at: usize) -> Option<Line>
     ensures { said_cut result ≡ next_line_says text.now at }
 {
     if text.len() <= at {
-        return Cut::NoLine;
+        return None;
     }
-    let end = find(text, at, LF);
-    if end < text.len() {
-        return Cut::Line { end, next: end + 1 };
-    }
-    Cut::Line { end, next: end }
+    let Some(length) = find(&text[at..], LF) else {
+        let end = text.len();
+        return Some(Line { end, next: end });
+    };
+    let end = at + length;
+    Some(Line { end, next: end + 1 })
 }
 
-// Writes the line of an entry, with its LF, at the start of the buffer.
-pub fn write_line(key: &[u8], number: u32, out: &mut [u8]) -> Written
+// Writes the line of an entry, with its LF, at the start of the buffer, and answers its length.
+pub fn write_line(key: &[u8], number: u32, out: &mut [u8]) -> Result<usize, Refusal>
     ensures answer { said_written result ≡ write_line_says (key.now, number) out.old }
     ensures left { out.new ≡ write_line_out (key.now, number) out.old }
 {
     let digits = digit_count(number);
     let length = key.len() + digits + 2;
     if out.len() < length {
-        return Written::KeyRoom;
+        return Err(Refusal::KeyRoom);
     }
     put_line(key, number, digits, out);
-    Written::Length(length)
+    Ok(length)
 }

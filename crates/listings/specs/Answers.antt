@@ -11,8 +11,8 @@ use Rattle.listings.specs.declared.answers.Kind.{Kind}
 use Rattle.listings.specs.declared.answers.Kind.TheVariants as kinds
 use Rattle.listings.specs.declared.answers.Cursor.{Cursor}
 use Rattle.listings.specs.declared.answers.Cursor.TheVariants as cursors
-use Rattle.listings.specs.declared.answers.Step.{Step}
-use Rattle.listings.specs.declared.answers.Step.TheVariants as steps
+use Rattle.listings.specs.declared.answers.Stepped.{Stepped}
+use Rattle.listings.specs.declared.answers.Stepped.TheVariants as steps
 
 abbrev pub said_kind : Kind → ℕ
 said_kind kinds.Predictive = 0
@@ -25,9 +25,9 @@ said_cursor (cursors.Finished k) = said_kind k ∷ []
 abbrev pub said_started : Result Cursor Refusal → List ℕ
 said_started = said said_cursor
 
-abbrev pub told_step : Step → List ℕ
+abbrev pub told_step : Stepped → List ℕ
 told_step (steps.Gave node value next) = node ∷ value ∷ said_cursor next
 told_step (steps.End next) = 0 ∷ said_cursor next
 
-abbrev pub said_stepped : Result Step Refusal → List ℕ
+abbrev pub said_stepped : Result Stepped Refusal → List ℕ
 said_stepped = said told_step

@@ -39,7 +39,7 @@ impl Cursor {
 
 // A step of a listing.
 #[derive(Clone, Copy, Debug, PartialEq, Eq)]
-pub enum Step {
+pub enum Stepped {
     // The least key of the set above the last one given: its node and value, and the cursor to go on with.
     Gave { node: u32, value: u32, next: Cursor },
     // There is none: the cursor is finished.

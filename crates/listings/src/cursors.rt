@@ -12,7 +12,7 @@ ghost use Rattle.listings.specs.Answers.{said_started, said_stepped};
 ghost use Rattle.listings.specs.Cursors.{start_says, step_says};
 ghost use Rattle.listings.specs.Numbers.{in_set_by, stands_by, first_given_by, next_given_by, has_keys_by, start_by};
 
-use crate::answers::{Cursor, Kind, Step};
+use crate::answers::{Cursor, Kind, Stepped};
 use climbs::below::is_below;
 use climbs::order::next_valued;
 use descents::walk;
@@ -179,12 +179,12 @@ pub fn postfix_search(
 
 // The least key of the cursor's set above the one given last, with the cursor to go on with; after the last key, and of
 // a finished cursor, the end.
-pub fn step(labels: &[u16], values: &[u32], words: &[u64], cursor: Cursor) -> Result<Step, Refusal>
+pub fn step(labels: &[u16], values: &[u32], words: &[u64], cursor: Cursor) -> Result<Stepped, Refusal>
     ensures answer { said_stepped result ≡ step_says (lent_image labels values words) cursor }
 {
     accept(labels, values, words)?; // for a finished cursor too
     let Cursor::Open { kind, top, last } = cursor else {
-        return Ok(Step::End { next: cursor });
+        return Ok(Stepped::End { next: cursor });
     };
     let len = 2 * labels.len() + 3;
     if !stands(labels, values, words, len, kind, top, last) {
@@ -201,7 +201,7 @@ pub fn step(labels: &[u16], values: &[u32], words: &[u64], cursor: Cursor) -> Re
     ) {
         Some(key) => {
             let node = key.node as u32;
-            Ok(Step::Gave {
+            Ok(Stepped::Gave {
                 node,
                 value: key.value,
                 next: Cursor::Open {
@@ -211,7 +211,7 @@ pub fn step(labels: &[u16], values: &[u32], words: &[u64], cursor: Cursor) -> Re
                 },
             })
         }
-        None => Ok(Step::End {
+        None => Ok(Stepped::End {
             next: Cursor::finished(kind),
         }),
     }

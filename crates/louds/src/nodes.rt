@@ -6,8 +6,8 @@ ghost use Rattle.louds.specs.Nodes.{children_of, parent_of};
 use crate::answers::Children;
 use crate::select::{one_at, zero_at, zero_from};
 
-// The children of node k: the ones after the k-th zero up to the next zero or the end. Without that zero there is no such
-// node.
+// The children of node k: the ones after the k-th zero up to the next zero or the end. Without that zero there is no
+// such node.
 pub fn children(words: &[u64], len: usize, k: usize) -> Option<Children>
     ensures { result ≡ children_of (bit words.now) len k }
 {

@@ -98,13 +98,11 @@ fn marks_in(words: &[u64], v: u64, w: usize) -> u64
     ensures { result ≡ number (λ t. marks (bit words.now) v (w * word_bits + t)) word_bits }
 {
     let word = word_at(words, w);
-    if v == 0 {
-        return !word;
+    match v {
+        0 => !word,
+        1 => word,
+        _ => 0,
     }
-    if v == 1 {
-        return word;
-    }
-    0
 }
 
 // The k-th bit that equals v, at `from` or beyond, where every bit is 0.

@@ -7,17 +7,18 @@
 // 1, "ab" 2, where "a" has the place that it has in A; and the last with one bit too many, which is none.
 #![tactic(auto)]
 
-ghost use Rattle.image.specs.Meaning.{lent_image};
+ghost use Rattle.std.specs.Prelude.{◌≡◌, drop};
+ghost use Rattle.replay.specs.Memory.{meant_image};
 ghost use Rattle.places.specs.Incremental.{place_at, QueryPromise, FollowPromise, GotoPromise};
 
-use places::{
-    Answer, FollowMove, Followed, Gone, GotoMove, Place, Queried, QueryMove, goto_longest_prefix,
-    query, query_until,
-};
-use replay::counts::{of_labels, of_values};
+use keymap::Refusal;
+use places::{Answer, Moved, Place, goto_longest_prefix, query, query_until};
+use replay::entries::{hex, store};
 use replay::lists::read_list;
+use replay::memory::LentImage;
+use replay::parts::part;
 use replay::printing::{number, text};
-use replay::text::{hex, letter, line_at, number as number_of};
+use replay::text::{Case, letter, line_of};
 
 // Where the image's parts and the name stand in a line, and what is asked of `query` and of `query_until`.
 const COUNT: usize = 11;
@@ -35,43 +36,36 @@ const LABEL: usize = 74;
 const TYPED: usize = 80;
 
 // Lends a place at a node to `query`.
-fn query_from(labels: &[u16], values: &[u32], words: &[u64], node: u32, label: u8) -> QueryMove
-    ensures { QueryPromise (lent_image labels values words) label (place_at node) result.answer (place_at result.node) }
+fn query_from(image: LentImage, node: u32, label: u8) -> Moved<Option<Answer>>
+    ensures { QueryPromise (meant_image image.entry) label (place_at node) result.answer (place_at result.node) }
 {
     let mut place = Place { node };
-    let answer = query(labels, values, words, &mut place, label);
-    QueryMove {
+    let answer = query(image.labels, image.values, image.words, &mut place, label);
+    Moved {
         answer,
         node: place.node,
     }
 }
 
 // Lends a place at a node to `query_until`.
-fn query_until_from(
-    labels: &[u16],
-    values: &[u32],
-    words: &[u64],
-    node: u32,
-    text: &[u8],
-) -> FollowMove
-    ensures { FollowPromise (lent_image labels values words) text.now (place_at node) result.answer
-        (place_at result.node) }
+fn query_until_from(image: LentImage, node: u32, text: &[u8]) -> Moved<Result<Answer, usize>>
+    ensures { FollowPromise (meant_image image.entry) text.now (place_at node) result.answer (place_at result.node) }
 {
     let mut place = Place { node };
-    let answer = query_until(labels, values, words, &mut place, text);
-    FollowMove {
+    let answer = query_until(image.labels, image.values, image.words, &mut place, text);
+    Moved {
         answer,
         node: place.node,
     }
 }
 
 // Lends a place at a node to `goto_longest_prefix`.
-fn goto_from(labels: &[u16], values: &[u32], words: &[u64], node: u32) -> GotoMove
-    ensures { GotoPromise (lent_image labels values words) (place_at node) result.answer (place_at result.node) }
+fn goto_from(image: LentImage, node: u32) -> Moved<Result<usize, usize>>
+    ensures { GotoPromise (meant_image image.entry) (place_at node) result.answer (place_at result.node) }
 {
     let mut place = Place { node };
-    let answer = goto_longest_prefix(labels, values, words, &mut place);
-    GotoMove {
+    let answer = goto_longest_prefix(image.labels, image.values, image.words, &mut place);
+    Moved {
         answer,
         node: place.node,
     }
@@ -86,108 +80,103 @@ fn tell(rt: &impl Print, answer: Answer) {
     }
 }
 
-// What each move answers, and the place afterwards.
-fn queried(rt: &impl Print, moved: QueryMove) -> u32 {
-    let answer = moved.answer;
+// What each move answers.
+fn queried(rt: &impl Print, answer: Result<Option<Answer>, Refusal>) {
     match answer {
-        Queried::Found(found) => tell(rt, found),
-        Queried::NoMatch => text(rt, b" no match"),
-        _ => number(rt, answer.number() as u64),
+        Ok(Some(found)) => tell(rt, found),
+        Ok(None) => text(rt, b" no match"),
+        Err(refusal) => number(rt, refusal.number()),
     }
-    moved.node
 }
 
-fn followed(rt: &impl Print, moved: FollowMove) -> u32 {
-    let answer = moved.answer;
+fn followed(rt: &impl Print, answer: Result<Result<Answer, usize>, Refusal>) {
     match answer {
-        Followed::Ok(found) => {
+        Ok(Ok(found)) => {
             text(rt, b" Ok");
             tell(rt, found);
         }
-        Followed::Err(index) => {
+        Ok(Err(index)) => {
             text(rt, b" Err");
-            number(rt, index as u64);
+            number(rt, index);
         }
-        _ => number(rt, answer.number() as u64),
+        Err(refusal) => number(rt, refusal.number()),
     }
-    moved.node
 }
 
-fn gone(rt: &impl Print, moved: GotoMove) -> u32 {
-    let answer = moved.answer;
+fn gone(rt: &impl Print, answer: Result<Result<usize, usize>, Refusal>) {
     match answer {
-        Gone::Ok(distance) => {
+        Ok(Ok(distance)) => {
             text(rt, b" Ok");
-            number(rt, distance as u64);
+            number(rt, distance);
         }
-        Gone::Err(distance) => {
+        Ok(Err(distance)) => {
             text(rt, b" Err");
-            number(rt, distance as u64);
+            number(rt, distance);
         }
-        _ => number(rt, answer.number() as u64),
-    }
-    moved.node
-}
-
-fn answer(rt: &impl Print, line: &[u8], labels: &[u16], values: &[u32], words: &[u64]) -> u32 {
-    let node = number_of(line);
-    match letter(line) {
-        b'q' => queried(
-            rt,
-            query_from(labels, values, words, node, letter(line_at(line, LABEL))),
-        ),
-        b'u' => followed(
-            rt,
-            query_until_from(labels, values, words, node, line_at(line, TYPED)),
-        ),
-        _ => gone(rt, goto_from(labels, values, words, node)),
+        Err(refusal) => number(rt, refusal.number()),
     }
 }
 
-fn label(line: &[u8], at: usize) -> u16 {
-    (hex(line, at, 4) % 65536) as u16
+// Makes the move that a line says, and answers the place afterwards.
+fn answer(rt: &impl Print, case: Case, image: LentImage) -> u32 {
+    let node = case.number;
+    match case.letter {
+        b'q' => {
+            let moved = query_from(image, node, letter(rest(case.line, LABEL)));
+            queried(rt, moved.answer);
+            moved.node
+        }
+        b'u' => {
+            let moved = query_until_from(image, node, rest(case.line, TYPED));
+            followed(rt, moved.answer);
+            moved.node
+        }
+        _ => {
+            let moved = goto_from(image, node);
+            gone(rt, moved.answer);
+            moved.node
+        }
+    }
 }
 
-fn value(line: &[u8], at: usize) -> u32 {
-    (hex(line, at, 8) % 4294967296) as u32
+// What stands in a line from an index on.
+fn rest(line: &[u8], from: usize) -> &[u8]
+    ensures { result.now ≡ drop from line.now }
+{
+    part(line, from, line.len())
 }
 
 // A line of the list: the name, what the move answers, and the place afterwards.
-fn case(rt: &impl Print, line: &[u8]) {
-    let labels = [
-        label(line, LABELS),
-        label(line, LABELS + 4),
-        label(line, LABELS + 8),
-    ];
-    let values = [
-        value(line, VALUES),
-        value(line, VALUES + 8),
-        value(line, VALUES + 16),
-    ];
-    let words = [hex(line, WORD, 16)];
-    let n = of_labels(&labels, hex(line, COUNT, 1) as usize);
-    let m = of_values(&values, hex(line, COUNT, 1) as usize);
-    text(rt, line_at(line, NAME));
+fn answer_line(rt: &impl Print, line: &[u8]) {
+    let mut labels = [0u16; 3];
+    let mut values = [0u32; 3];
+    let mut words = [0u64; 1];
+    store(&mut labels, 0, part(line, LABELS, 12));
+    store(&mut values, 0, part(line, VALUES, 24));
+    store(&mut words, 0, part(line, WORD, 16));
+    let n = hex(part(line, COUNT, 1)) as usize;
+    let image = LentImage {
+        labels: part(&labels, 0, n),
+        values: part(&values, 0, n),
+        words: &words,
+    };
+    text(rt, rest(line, NAME));
     text(rt, b":");
-    let node = answer(rt, line, &labels[..n], &values[..m], &words);
+    let node = answer(rt, Case::new(line), image);
     text(rt, b", place");
-    number(rt, node as u64);
+    number(rt, node);
     text(rt, b"\n");
 }
 
 fn replay(rt: &impl Print, list: &[u8]) {
-    let mut from = 0;
-    while from < list.len() {
-        let line = line_at(list, from);
-        from += line.len();
-        from += 1;
-        case(rt, line);
+    for piece in list.split_inclusive(|&byte| byte == b'\n') {
+        answer_line(rt, line_of(piece));
     }
 }
 
 fn main(rt: HostRuntime) {
     text(&rt, b"the root, place");
-    number(&rt, Place::ROOT.node as u64);
+    number(&rt, Place::ROOT.node);
     text(&rt, b"\n");
     let mut room = [0u8; 4096];
     let n = read_list(&rt, b"cases", &mut room);

@@ -35,18 +35,6 @@ use Rattle.places.specs.contracts.answers.Answer.is_prefix as answer-is-prefix
 use Rattle.places.proofs.answers.Answer.is_prefix.Reads as answer-is-prefix-reads
 use Rattle.places.specs.contracts.answers.Answer.is_match as answer-is-match
 use Rattle.places.proofs.answers.Answer.is_match.Reads as answer-is-match-reads
-use Rattle.places.specs.contracts.answers.Resumed.number as resumed-number
-use Rattle.places.proofs.answers.Resumed.number.Reads as resumed-number-reads
-use Rattle.places.specs.contracts.answers.Valued.number as Valued-number
-use Rattle.places.proofs.answers.Valued.number.Reads as valued-number-reads
-use Rattle.places.specs.contracts.answers.Measured.number as measured-number
-use Rattle.places.proofs.answers.Measured.number.Reads as measured-number-reads
-use Rattle.places.specs.contracts.answers.Queried.number as queried-number
-use Rattle.places.proofs.answers.Queried.number.Reads as queried-number-reads
-use Rattle.places.specs.contracts.answers.Followed.number as followed-number
-use Rattle.places.proofs.answers.Followed.number.Reads as followed-number-reads
-use Rattle.places.specs.contracts.answers.Gone.number as gone-number
-use Rattle.places.proofs.answers.Gone.number.Reads as gone-number-reads
 
 pub resume-asks-nothing : (κs : Lfts 3) (a : ArgsD resume.signature κs) → resume-reads.Pre κs a
 resume-asks-nothing κs a = tt
@@ -80,24 +68,6 @@ answer-is-prefix-asks-nothing κs a = tt
 
 pub answer-is-match-asks-nothing : (κs : Lfts 0) (a : ArgsD answer-is-match.signature κs) → answer-is-match-reads.Pre κs a
 answer-is-match-asks-nothing κs a = tt
-
-pub resumed-number-asks-nothing : (κs : Lfts 0) (a : ArgsD resumed-number.signature κs) → resumed-number-reads.Pre κs a
-resumed-number-asks-nothing κs a = tt
-
-pub valued-number-asks-nothing : (κs : Lfts 0) (a : ArgsD Valued-number.signature κs) → valued-number-reads.Pre κs a
-valued-number-asks-nothing κs a = tt
-
-pub measured-number-asks-nothing : (κs : Lfts 0) (a : ArgsD measured-number.signature κs) → measured-number-reads.Pre κs a
-measured-number-asks-nothing κs a = tt
-
-pub queried-number-asks-nothing : (κs : Lfts 0) (a : ArgsD queried-number.signature κs) → queried-number-reads.Pre κs a
-queried-number-asks-nothing κs a = tt
-
-pub followed-number-asks-nothing : (κs : Lfts 0) (a : ArgsD followed-number.signature κs) → followed-number-reads.Pre κs a
-followed-number-asks-nothing κs a = tt
-
-pub gone-number-asks-nothing : (κs : Lfts 0) (a : ArgsD gone-number.signature κs) → gone-number-reads.Pre κs a
-gone-number-asks-nothing κs a = tt
 
 module _ {M : Type 1} {𝓤 : Ura M} (𝓛 : Logic 𝓤) (mem : Memory → SProp 𝓤) (run : Routine → Fun 𝓤) where
   pub query-asks-nothing : (κs : Lfts 4) (a : Args query.signature κs) → (query.clauses 𝓛 mem run κs a).requires tt ≡ emp 𝓤

@@ -3,17 +3,17 @@
 -- definition, and the law is about that definition. Assumes nothing.
 use mathlib.Core.Path.{◌≡◌, sym, ◌∙◌}
 use Prim.Native.Nat.{ℕ}
+use Rattle.std.specs.Prelude.{Option, Result}
 use mathlib.Core.List.{List}
 use contract.Lifetimes.{Lfts}
 use denote.Triple.Clauses.{AtExit}
 use borrow.Fn.Kinds.{ended_of}
 use borrow.Fn.World.{ArgsD, ResD}
+use Rattle.keymap.specs.declared.refusals.Refusal.{Refusal}
 use Rattle.keymap.specs.Key.{Key}
 use Rattle.keymap.specs.Image.{Image}
 use Rattle.places.specs.declared.answers.Place.{Place}
-use Rattle.places.specs.declared.answers.Queried.{Queried}
-use Rattle.places.specs.declared.answers.Followed.{Followed}
-use Rattle.places.specs.declared.answers.Gone.{Gone}
+use Rattle.places.specs.declared.answers.Answer.{Answer}
 use Rattle.places.specs.Incremental.{Promise, QueryPromise, FollowPromise, GotoPromise}
 use Rattle.climbs.proofs.Laws.Spelling.{said_spelled-one}
 use Rattle.places.proofs.Laws.Answers.{said_resumed-one, said_valued-one, said_measured-one, said_queried-one, said_followed-one, said_gone-one}
@@ -50,24 +50,6 @@ use Rattle.places.proofs.answers.Answer.is_prefix.Reads as answer-is-prefix-read
 use Rattle.places.specs.contracts.answers.Answer.is_match as answer-is-match
 use Rattle.places.proofs.answers.Answer.is_match.Kinds as answer-is-match-kinds
 use Rattle.places.proofs.answers.Answer.is_match.Reads as answer-is-match-reads
-use Rattle.places.specs.contracts.answers.Resumed.number as resumed-number
-use Rattle.places.proofs.answers.Resumed.number.Kinds as resumed-number-kinds
-use Rattle.places.proofs.answers.Resumed.number.Reads as resumed-number-reads
-use Rattle.places.specs.contracts.answers.Valued.number as Valued-number
-use Rattle.places.proofs.answers.Valued.number.Kinds as valued-number-kinds
-use Rattle.places.proofs.answers.Valued.number.Reads as valued-number-reads
-use Rattle.places.specs.contracts.answers.Measured.number as measured-number
-use Rattle.places.proofs.answers.Measured.number.Kinds as measured-number-kinds
-use Rattle.places.proofs.answers.Measured.number.Reads as measured-number-reads
-use Rattle.places.specs.contracts.answers.Queried.number as queried-number
-use Rattle.places.proofs.answers.Queried.number.Kinds as queried-number-kinds
-use Rattle.places.proofs.answers.Queried.number.Reads as queried-number-reads
-use Rattle.places.specs.contracts.answers.Followed.number as followed-number
-use Rattle.places.proofs.answers.Followed.number.Kinds as followed-number-kinds
-use Rattle.places.proofs.answers.Followed.number.Reads as followed-number-reads
-use Rattle.places.specs.contracts.answers.Gone.number as gone-number
-use Rattle.places.proofs.answers.Gone.number.Kinds as gone-number-kinds
-use Rattle.places.proofs.answers.Gone.number.Reads as gone-number-reads
 
 module _ (κs : Lfts 0) where
   pub root-determined : (a : ArgsD root.signature κs) (r₁ r₂ : ResD root.signature κs) (s₁ s₂ : AtExit (ended_of 0 root-kinds.ps root-kinds.r) κs)
@@ -97,15 +79,15 @@ module _ (κs : Lfts 4) where
 promise-one : (said other says : List ℕ) (after last : Place) (moves : ℕ) → Promise said says after moves → Promise other says last moves → (said ≡ other) × (after ≡ last)
 promise-one said other says after last moves p q = (p.answers ∙ sym q.answers, p.stands ∙ sym q.stands)
 
-pub query-determined : (i : Image) (a : ℕ) (before : Place) (r₁ r₂ : Queried) (after₁ after₂ : Place)
+pub query-determined : (i : Image) (a : ℕ) (before : Place) (r₁ r₂ : Result (Option Answer) Refusal) (after₁ after₂ : Place)
     → QueryPromise i a before r₁ after₁ → QueryPromise i a before r₂ after₂ → (r₁ ≡ r₂) × (after₁ ≡ after₂)
 query-determined i a before r₁ r₂ after₁ after₂ p q = let (said, stood) = promise-one _ _ _ _ _ _ p q in (said_queried-one r₁ r₂ said, stood)
 
-pub query-until-determined : (i : Image) (text : Key) (before : Place) (r₁ r₂ : Followed) (after₁ after₂ : Place)
+pub query-until-determined : (i : Image) (text : Key) (before : Place) (r₁ r₂ : Result (Result Answer ℕ) Refusal) (after₁ after₂ : Place)
     → FollowPromise i text before r₁ after₁ → FollowPromise i text before r₂ after₂ → (r₁ ≡ r₂) × (after₁ ≡ after₂)
 query-until-determined i text before r₁ r₂ after₁ after₂ p q = let (said, stood) = promise-one _ _ _ _ _ _ p q in (said_followed-one r₁ r₂ said, stood)
 
-pub goto-longest-prefix-determined : (i : Image) (before : Place) (r₁ r₂ : Gone) (after₁ after₂ : Place)
+pub goto-longest-prefix-determined : (i : Image) (before : Place) (r₁ r₂ : Result (Result ℕ ℕ) Refusal) (after₁ after₂ : Place)
     → GotoPromise i before r₁ after₁ → GotoPromise i before r₂ after₂ → (r₁ ≡ r₂) × (after₁ ≡ after₂)
 goto-longest-prefix-determined i before r₁ r₂ after₁ after₂ p q = let (said, stood) = promise-one _ _ _ _ _ _ p q in (said_gone-one r₁ r₂ said, stood)
 
@@ -143,27 +125,3 @@ module _ (κs : Lfts 0) where
   pub answer-is-match-determined : (a : ArgsD answer-is-match.signature κs) (r₁ r₂ : ResD answer-is-match.signature κs) (s₁ s₂ : AtExit (ended_of 0 answer-is-match-kinds.ps answer-is-match-kinds.r) κs)
       → answer-is-match-reads.Post κs a r₁ s₁ → answer-is-match-reads.Post κs a r₂ s₂ → r₁ ≡ r₂
   answer-is-match-determined a r₁ r₂ s₁ s₂ p q = p ∙ sym q
-
-  pub resumed-number-determined : (a : ArgsD resumed-number.signature κs) (r₁ r₂ : ResD resumed-number.signature κs) (s₁ s₂ : AtExit (ended_of 0 resumed-number-kinds.ps resumed-number-kinds.r) κs)
-      → resumed-number-reads.Post κs a r₁ s₁ → resumed-number-reads.Post κs a r₂ s₂ → r₁ ≡ r₂
-  resumed-number-determined a r₁ r₂ s₁ s₂ p q = p ∙ sym q
-
-  pub valued-number-determined : (a : ArgsD Valued-number.signature κs) (r₁ r₂ : ResD Valued-number.signature κs) (s₁ s₂ : AtExit (ended_of 0 valued-number-kinds.ps valued-number-kinds.r) κs)
-      → valued-number-reads.Post κs a r₁ s₁ → valued-number-reads.Post κs a r₂ s₂ → r₁ ≡ r₂
-  valued-number-determined a r₁ r₂ s₁ s₂ p q = p ∙ sym q
-
-  pub measured-number-determined : (a : ArgsD measured-number.signature κs) (r₁ r₂ : ResD measured-number.signature κs) (s₁ s₂ : AtExit (ended_of 0 measured-number-kinds.ps measured-number-kinds.r) κs)
-      → measured-number-reads.Post κs a r₁ s₁ → measured-number-reads.Post κs a r₂ s₂ → r₁ ≡ r₂
-  measured-number-determined a r₁ r₂ s₁ s₂ p q = p ∙ sym q
-
-  pub queried-number-determined : (a : ArgsD queried-number.signature κs) (r₁ r₂ : ResD queried-number.signature κs) (s₁ s₂ : AtExit (ended_of 0 queried-number-kinds.ps queried-number-kinds.r) κs)
-      → queried-number-reads.Post κs a r₁ s₁ → queried-number-reads.Post κs a r₂ s₂ → r₁ ≡ r₂
-  queried-number-determined a r₁ r₂ s₁ s₂ p q = p ∙ sym q
-
-  pub followed-number-determined : (a : ArgsD followed-number.signature κs) (r₁ r₂ : ResD followed-number.signature κs) (s₁ s₂ : AtExit (ended_of 0 followed-number-kinds.ps followed-number-kinds.r) κs)
-      → followed-number-reads.Post κs a r₁ s₁ → followed-number-reads.Post κs a r₂ s₂ → r₁ ≡ r₂
-  followed-number-determined a r₁ r₂ s₁ s₂ p q = p ∙ sym q
-
-  pub gone-number-determined : (a : ArgsD gone-number.signature κs) (r₁ r₂ : ResD gone-number.signature κs) (s₁ s₂ : AtExit (ended_of 0 gone-number-kinds.ps gone-number-kinds.r) κs)
-      → gone-number-reads.Post κs a r₁ s₁ → gone-number-reads.Post κs a r₂ s₂ → r₁ ≡ r₂
-  gone-number-determined a r₁ r₂ s₁ s₂ p q = p ∙ sym q

@@ -4,6 +4,7 @@
 use mathlib.Core.Path.{◌≡◌, refl, ap}
 use mathlib.Core.List.{List}
 use Prim.Native.Nat.{ℕ}
+use Rattle.std.specs.Prelude.{Option, Result}
 use seplogic.Ra.Ura.{Ura}
 use base.Logic.{SProp}
 use prog.Memory.{Memory}
@@ -14,14 +15,12 @@ use contract.Lifetimes.{Lfts}
 use denote.Triple.Entry.{Args, Res}
 use denote.Triple.Clauses.{AtExit}
 use Rattle.keymap.specs.Contract.{Tells}
-use Rattle.keymap.specs.Answers.{answer_number}
+use Rattle.keymap.specs.declared.refusals.Refusal.{Refusal}
 use Rattle.keymap.specs.Key.{Key}
 use Rattle.keymap.specs.Image.{Image}
 use Rattle.image.specs.Meaning.{image_in}
 use Rattle.places.specs.declared.answers.Place.{Place}
-use Rattle.places.specs.declared.answers.Queried.{Queried}
-use Rattle.places.specs.declared.answers.Followed.{Followed}
-use Rattle.places.specs.declared.answers.Gone.{Gone}
+use Rattle.places.specs.declared.answers.Answer.{Answer}
 use Rattle.climbs.specs.Spelling.{said_spelled}
 use Rattle.places.specs.Places.{said_resumed, said_valued, said_measured, resume_says, value_says, prefix_len_says, prefix_says, prefix_out}
 use Rattle.places.specs.Incremental.{tells_prefix, tells_match, place_at, said_queried, said_followed, said_gone, query_says, query_moves, follow_says, follow_moves, goto_says, goto_moves, Promise, QueryPromise, FollowPromise, GotoPromise}
@@ -50,18 +49,6 @@ use Rattle.places.proofs.answers.Answer.is_prefix.Kinds as answer-is-prefix-kind
 use Rattle.places.proofs.answers.Answer.is_prefix.Reads as answer-is-prefix-reads
 use Rattle.places.proofs.answers.Answer.is_match.Kinds as answer-is-match-kinds
 use Rattle.places.proofs.answers.Answer.is_match.Reads as answer-is-match-reads
-use Rattle.places.proofs.answers.Resumed.number.Kinds as resumed-number-kinds
-use Rattle.places.proofs.answers.Resumed.number.Reads as resumed-number-reads
-use Rattle.places.proofs.answers.Valued.number.Kinds as valued-number-kinds
-use Rattle.places.proofs.answers.Valued.number.Reads as valued-number-reads
-use Rattle.places.proofs.answers.Measured.number.Kinds as measured-number-kinds
-use Rattle.places.proofs.answers.Measured.number.Reads as measured-number-reads
-use Rattle.places.proofs.answers.Queried.number.Kinds as queried-number-kinds
-use Rattle.places.proofs.answers.Queried.number.Reads as queried-number-reads
-use Rattle.places.proofs.answers.Followed.number.Kinds as followed-number-kinds
-use Rattle.places.proofs.answers.Followed.number.Reads as followed-number-reads
-use Rattle.places.proofs.answers.Gone.number.Kinds as gone-number-kinds
-use Rattle.places.proofs.answers.Gone.number.Reads as gone-number-reads
 
 pub root-says : Tells 0 root-kinds.ps root-kinds.r root-reads.Post (λ κs a r s. r ≡ place_at 1)
 root-says κs a r s p = p.0
@@ -96,24 +83,6 @@ answer-is-prefix-says κs a r s p = p
 pub answer-is-match-says : Tells 0 answer-is-match-kinds.ps answer-is-match-kinds.r answer-is-match-reads.Post (λ κs a r s. r ≡ tells_match a.0)
 answer-is-match-says κs a r s p = p
 
-pub resumed-number-says : Tells 0 resumed-number-kinds.ps resumed-number-kinds.r resumed-number-reads.Post (λ κs a r s. r ≡ answer_number (said_resumed a.0))
-resumed-number-says κs a r s p = p
-
-pub valued-number-says : Tells 0 valued-number-kinds.ps valued-number-kinds.r valued-number-reads.Post (λ κs a r s. r ≡ answer_number (said_valued a.0))
-valued-number-says κs a r s p = p
-
-pub measured-number-says : Tells 0 measured-number-kinds.ps measured-number-kinds.r measured-number-reads.Post (λ κs a r s. r ≡ answer_number (said_measured a.0))
-measured-number-says κs a r s p = p
-
-pub queried-number-says : Tells 0 queried-number-kinds.ps queried-number-kinds.r queried-number-reads.Post (λ κs a r s. r ≡ answer_number (said_queried a.0))
-queried-number-says κs a r s p = p
-
-pub followed-number-says : Tells 0 followed-number-kinds.ps followed-number-kinds.r followed-number-reads.Post (λ κs a r s. r ≡ answer_number (said_followed a.0))
-followed-number-says κs a r s p = p
-
-pub gone-number-says : Tells 0 gone-number-kinds.ps gone-number-kinds.r gone-number-reads.Post (λ κs a r s. r ≡ answer_number (said_gone a.0))
-gone-number-says κs a r s p = p
-
 -- ---- calls that are lent a place: the one clause of the contract is a promise, and a promise is an answer and a node
 
 tells : (said says : List ℕ) (after : Place) (moves : ℕ) → Promise said says after moves → (said ≡ says) × (after.node ≡ moves)
@@ -132,11 +101,11 @@ module _ {M : Type 1} {𝓤 : Ura M} (𝓛 : Logic 𝓤) (mem : Memory → SProp
       → (goto-longest-prefix.clauses 𝓛 mem run κs a).ensures tt r s ≡ fact 𝓤 (GotoPromise (image_in a.0 a.1.0 a.1.1.0) a.1.1.1.0.now r s.1.1.1.0.now)
   goto-longest-prefix-claims κs a r s = refl
 
-pub query-says : (i : Image) (a : ℕ) (before : Place) (r : Queried) (after : Place) → QueryPromise i a before r after → (said_queried r ≡ query_says i before.node a) × (after.node ≡ query_moves i before.node a)
+pub query-says : (i : Image) (a : ℕ) (before : Place) (r : Result (Option Answer) Refusal) (after : Place) → QueryPromise i a before r after → (said_queried r ≡ query_says i before.node a) × (after.node ≡ query_moves i before.node a)
 query-says i a before r after p = tells _ _ _ _ p
 
-pub query-until-says : (i : Image) (q : Key) (before : Place) (r : Followed) (after : Place) → FollowPromise i q before r after → (said_followed r ≡ follow_says i before.node q) × (after.node ≡ follow_moves i before.node q)
+pub query-until-says : (i : Image) (q : Key) (before : Place) (r : Result (Result Answer ℕ) Refusal) (after : Place) → FollowPromise i q before r after → (said_followed r ≡ follow_says i before.node q) × (after.node ≡ follow_moves i before.node q)
 query-until-says i q before r after p = tells _ _ _ _ p
 
-pub goto-longest-prefix-says : (i : Image) (before : Place) (r : Gone) (after : Place) → GotoPromise i before r after → (said_gone r ≡ goto_says i before.node) × (after.node ≡ goto_moves i before.node)
+pub goto-longest-prefix-says : (i : Image) (before : Place) (r : Result (Result ℕ ℕ) Refusal) (after : Place) → GotoPromise i before r after → (said_gone r ≡ goto_says i before.node) × (after.node ≡ goto_moves i before.node)
 goto-longest-prefix-says i before r after p = tells _ _ _ _ p

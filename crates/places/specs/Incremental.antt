@@ -16,27 +16,22 @@
 --                   `goto_moves`
 --     Promise       what a call over a lent place promises: its answer, and the place afterwards
 -- Assumes nothing.
-use Rattle.std.specs.Prelude.{◌≡◌, ℕ, zero, suc, ◌+◌, ◌-◌, Bool, true, false, cond, List, [], ◌∷◌, ◌++◌, length, take}
+use Rattle.std.specs.Prelude.{◌≡◌, ℕ, zero, suc, ◌+◌, ◌-◌, Bool, true, false, cond, List, [], ◌∷◌, ◌++◌, length, take, Option, None, Some, Result, Ok, Err}
 use Rattle.keymap.specs.Key.{Key}
 use Rattle.keymap.specs.Refusals.{refuses}
+use Rattle.keymap.specs.declared.refusals.Refusal.{Refusal}
 use Rattle.keymap.specs.declared.refusals.Refusal.TheVariants.{NotAnImage, BadPlace}
 use Rattle.keymap.specs.Map.{Map, lookup}
 use Rattle.keymap.specs.Queries.{longer, is_prefix_in, common_of_all}
 use Rattle.keymap.specs.Image.{Image}
 use Rattle.keymap.specs.Paths.{is_node, path_of, node_of, is_path}
 use Rattle.keymap.specs.Decode.{image_map}
-use Rattle.keymap.specs.Answers.{given}
+use Rattle.keymap.specs.Answers.{said, given}
 use Rattle.image.specs.AcceptTest.{image_test}
 use Rattle.image.specs.AcceptAnswer.{on_image}
 use Rattle.places.specs.declared.answers.Place.{Place}
 use Rattle.places.specs.declared.answers.Answer.{Answer}
 use Rattle.places.specs.declared.answers.Answer.TheVariants.{Prefix, Match, PrefixAndMatch}
-use Rattle.places.specs.declared.answers.Queried.{Queried}
-use Rattle.places.specs.declared.answers.Queried.TheVariants as queried
-use Rattle.places.specs.declared.answers.Followed.{Followed}
-use Rattle.places.specs.declared.answers.Followed.TheVariants as followed
-use Rattle.places.specs.declared.answers.Gone.{Gone}
-use Rattle.places.specs.declared.answers.Gone.TheVariants as gone
 
 -- ---- answers in numbers
 
@@ -63,28 +58,33 @@ says_ok n = 0 ∷ 0 ∷ n ∷ []
 abbrev pub says_err : ℕ → List ℕ
 says_err n = 0 ∷ 1 ∷ n ∷ []
 
-abbrev pub said_queried : Queried → List ℕ
-said_queried (queried.Found a) = 0 ∷ said_answer a ∷ []
-said_queried queried.NoMatch = 0 ∷ []
-said_queried queried.NotAnImage = refuses NotAnImage
-said_queried queried.BadPlace = refuses BadPlace
+-- what was found, if there is such a child
+abbrev pub told_child : Option Answer → List ℕ
+told_child None = []
+told_child (Some a) = said_answer a ∷ []
 
-abbrev pub said_gone : Gone → List ℕ
-said_gone (gone.Ok d) = says_ok d
-said_gone (gone.Err d) = says_err d
-said_gone gone.NotAnImage = refuses NotAnImage
-said_gone gone.BadPlace = refuses BadPlace
+-- Ok by the number of what it holds, and Err
+abbrev pub told_end : {T : Type 0} → (T → ℕ) → Result T ℕ → List ℕ
+told_end number (Ok x) = 0 ∷ number x ∷ []
+told_end number (Err n) = 1 ∷ n ∷ []
 
-abbrev pub said_followed : Followed → List ℕ
-said_followed (followed.Ok a) = says_ok (said_answer a)
-said_followed (followed.Err j) = says_err j
-said_followed followed.NotAnImage = refuses NotAnImage
-said_followed followed.BadPlace = refuses BadPlace
+abbrev pub said_queried : Result (Option Answer) Refusal → List ℕ
+said_queried = said told_child
+
+abbrev pub said_gone : Result (Result ℕ ℕ) Refusal → List ℕ
+said_gone = said (told_end (λ d. d))
+
+abbrev pub said_followed : Result (Result Answer ℕ) Refusal → List ℕ
+said_followed = said (told_end said_answer)
 
 -- ---- on a place
 
 abbrev pub place_at : ℕ → Place
 place_at k = record { node = k }
+
+-- which refusal a call answers, if the image is no map's or the place does not belong
+abbrev pub checked_place : Image → ℕ → Result (Unit {0}) Refusal
+checked_place i k = cond (image_test i) (cond (is_node (image_map i) k) (Ok tt) (Err BadPlace)) (Err NotAnImage)
 
 -- what a call says of a place that belongs, and refusal 7 of any other
 abbrev pub on_place : Image → ℕ → List ℕ → List ℕ
@@ -162,14 +162,14 @@ pub record Promise (said says : List ℕ) (after : Place) (moves : ℕ) : Type 0
   pub answers : said ≡ says
   pub stands : after ≡ place_at moves
 
-abbrev pub QueryPromise : Image → ℕ → Place → Queried → Place → Type 0
+abbrev pub QueryPromise : Image → ℕ → Place → Result (Option Answer) Refusal → Place → Type 0
 QueryPromise i a before answer after =
     Promise (said_queried answer) (query_says i before.node a) after (query_moves i before.node a)
 
-abbrev pub FollowPromise : Image → Key → Place → Followed → Place → Type 0
+abbrev pub FollowPromise : Image → Key → Place → Result (Result Answer ℕ) Refusal → Place → Type 0
 FollowPromise i q before answer after =
     Promise (said_followed answer) (follow_says i before.node q) after (follow_moves i before.node q)
 
-abbrev pub GotoPromise : Image → Place → Gone → Place → Type 0
+abbrev pub GotoPromise : Image → Place → Result (Result ℕ ℕ) Refusal → Place → Type 0
 GotoPromise i before answer after =
     Promise (said_gone answer) (goto_says i before.node) after (goto_moves i before.node)

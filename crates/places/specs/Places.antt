@@ -3,38 +3,25 @@
 -- Resume refuses a bad place." Each says 6 of an image that no map has, then 7 of a number that is no node's, and
 -- `prefix` then 8 of a shorter buffer.
 -- Assumes nothing.
-use Rattle.std.specs.Prelude.{ℕ, cond, List, [], ◌∷◌, length}
-use Rattle.keymap.specs.Refusals.{refuses}
-use Rattle.keymap.specs.declared.refusals.Refusal.TheVariants.{NotAnImage, BadPlace}
+use Rattle.std.specs.Prelude.{ℕ, cond, List, [], ◌∷◌, length, Option, Result}
+use Rattle.keymap.specs.declared.refusals.Refusal.{Refusal}
 use Rattle.keymap.specs.Map.{lookup}
 use Rattle.keymap.specs.Image.{Image}
 use Rattle.keymap.specs.Paths.{is_node, path_of}
 use Rattle.keymap.specs.Decode.{image_map}
-use Rattle.keymap.specs.Answers.{says_value, says_written, written_to}
+use Rattle.keymap.specs.Answers.{said, told_value, says_value, says_written, written_to}
 use Rattle.image.specs.AcceptTest.{image_test}
-use Rattle.places.specs.declared.answers.Resumed.{Resumed}
-use Rattle.places.specs.declared.answers.Resumed.TheVariants as resumed
-use Rattle.places.specs.declared.answers.Valued.{Valued}
-use Rattle.places.specs.declared.answers.Valued.TheVariants as valued
-use Rattle.places.specs.declared.answers.Measured.{Measured}
-use Rattle.places.specs.declared.answers.Measured.TheVariants as measured
+use Rattle.places.specs.declared.answers.Place.{Place}
 use Rattle.places.specs.Incremental.{on_place}
 
-abbrev pub said_resumed : Resumed → List ℕ
-said_resumed (resumed.At place) = 0 ∷ place.node ∷ []
-said_resumed resumed.NotAnImage = refuses NotAnImage
-said_resumed resumed.BadPlace = refuses BadPlace
+abbrev pub said_resumed : Result Place Refusal → List ℕ
+said_resumed = said (λ place. place.node ∷ [])
 
-abbrev pub said_valued : Valued → List ℕ
-said_valued (valued.Value v) = 0 ∷ v ∷ []
-said_valued valued.NoValue = 0 ∷ []
-said_valued valued.NotAnImage = refuses NotAnImage
-said_valued valued.BadPlace = refuses BadPlace
+abbrev pub said_valued : Result (Option ℕ) Refusal → List ℕ
+said_valued = said told_value
 
-abbrev pub said_measured : Measured → List ℕ
-said_measured (measured.Length n) = 0 ∷ n ∷ []
-said_measured measured.NotAnImage = refuses NotAnImage
-said_measured measured.BadPlace = refuses BadPlace
+abbrev pub said_measured : Result ℕ Refusal → List ℕ
+said_measured = said (λ n. n ∷ [])
 
 unfoldable pub resume_says : Image → ℕ → List ℕ
 resume_says i k = on_place i k (0 ∷ k ∷ [])

@@ -6,12 +6,10 @@
 
 pub mod answers;
 pub mod calls;
+mod checks;
 mod moves;
 pub mod reading;
 
-pub use answers::{
-    Answer, FollowMove, Followed, Gone, GotoMove, Measured, Place, Queried, QueryMove, Resumed,
-    Valued,
-};
+pub use answers::{Answer, Moved, Place};
 pub use calls::{goto_at, goto_longest_prefix, peek, query, query_at, query_until, query_until_at};
 pub use reading::{prefix, prefix_len, resume, value};

@@ -3,7 +3,7 @@
 --     slot_of        where a label stands among them, or would stand
 --     child_at       the child with a label
 -- Assumes nothing.
-use Rattle.std.specs.Prelude.{ℕ, zero, suc, cond, ltb, eqb}
+use Rattle.std.specs.Prelude.{ℕ, zero, suc, cond, ltb, eqb, Option, None, Some}
 use Rattle.records.specs.Words.{Pool, label, first_child, next_sibling, last_record}
 use Rattle.pool.specs.declared.siblings.Slot.{Slot}
 
@@ -20,6 +20,8 @@ slot_from p (suc f) a x b =
 unfoldable pub slot_of : Pool → (i b : ℕ) → Slot
 slot_of p i b = slot_from p (last_record p) 0 (first_child p i) b
 
--- 0 if there is none
-unfoldable pub child_at : Pool → (i b : ℕ) → ℕ
-child_at p i b = cond (eqb (label p (slot_of p i b).next) b) (slot_of p i b).next 0
+-- what stands at its slot, if that is a child with the label
+unfoldable pub child_at : Pool → (i b : ℕ) → Option ℕ
+child_at p i b =
+    cond (eqb (slot_of p i b).next 0) None
+    (cond (eqb (label p (slot_of p i b).next) b) (Some (slot_of p i b).next) None)

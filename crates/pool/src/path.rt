@@ -21,10 +21,9 @@ pub fn reach_of(pool: &[u32], key: &[u8]) -> Reach
 {
     let mut at = 0;
     for (depth, &label) in key.iter().enumerate() {
-        let child = child_at(pool, at, u32::from(label));
-        if child == 0 {
+        let Some(child) = child_at(pool, at, u32::from(label)) else {
             return Reach { at, depth };
-        }
+        };
         at = child;
     }
     Reach {

@@ -5,7 +5,8 @@ ghost use Rattle.pool.specs.Siblings.{slot_of, child_at};
 
 use records::words::{first_child, label_of, last_record, next_sibling};
 
-// A place among siblings: the one before it and the one that stands there, 0 where there is none.
+// A place among siblings: the one before it and the one that stands there, 0 where there is none. That is the format
+// of a pool's words, and as they stand both are written into them.
 #[derive(Clone, Copy)]
 pub struct Slot {
     pub prev: u32,
@@ -32,10 +33,13 @@ pub fn slot_of(pool: &[u32], i: u32, b: u32) -> Slot
     slot
 }
 
-// The child of i with label b, 0 if there is none.
-pub fn child_at(pool: &[u32], i: u32, b: u32) -> u32
+// The child of i with label b.
+pub fn child_at(pool: &[u32], i: u32, b: u32) -> Option<u32>
     ensures { result ≡ child_at pool.now i b }
 {
     let next = slot_of(pool, i, b).next;
-    if label_of(pool, next) == b { next } else { 0 }
+    if next != 0 && label_of(pool, next) == b {
+        return Some(next);
+    }
+    None
 }

@@ -12,7 +12,8 @@ fn set_word(pool: &mut [u32], c: u32, k: u32, v: u32)
     pool[RECORD_WORDS * (c as usize) + k as usize] = v;
 }
 
-// All five words of record c: label b, no value, no child, next sibling x, parent i.
+// All five words of record c: label b, no value, no child, next sibling x, parent i. Stored one by one, each as what it
+// is: an array copied over them would be no shorter.
 pub fn fill(pool: &mut [u32], c: u32, b: u32, x: u32, i: u32)
     requires { Inside pool.old c }
     ensures { pool.new ≡ filled pool.old c b x i }
@@ -24,7 +25,8 @@ pub fn fill(pool: &mut [u32], c: u32, b: u32, x: u32, i: u32)
     set_word(pool, c, 4, i);
 }
 
-// Record m becomes the sibling after a or, where a is 0, the first child of i.
+// Record m becomes the sibling after a or, where a is 0, the first child of i: by 0 a pool's words say that there is
+// none.
 pub fn link(pool: &mut [u32], i: u32, a: u32, m: u32)
     requires { Inside pool.old i × Inside pool.old a }
     ensures { pool.new ≡ linked pool.old i a m }

@@ -44,7 +44,7 @@ fn is_child(pool: &[u32], n: u32, c: u32, x: u32, l: u32) -> bool
 }
 
 // The chain of record c, where `all` records are left to be met: how many are left after it, `None` where it is broken.
-// It is followed up to the 0 that ends it, as the pool writes chains.
+// The 0 that ends a chain is the pool's format, and how long it is only its end shows: so a `while`.
 #[tactic(auto, using(crate::proofs::Laws::SoundTest::chain_cases))]
 fn chain(pool: &[u32], n: u32, c: u32, all: u32) -> Option<u32>
     ensures { result ≡ chain_rest pool.now n c all (first_child pool.now c) 0 }

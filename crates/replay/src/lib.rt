@@ -2,37 +2,22 @@
 // written, and the cases of pools and of the memory of images. tools/oracle/README.md has the letters.
 #![tactic(auto)]
 
-pub mod counts;
+pub mod entries;
 pub mod images;
 pub mod lists;
 pub mod memory;
+pub mod parts;
 pub mod pools;
 pub mod printing;
 pub mod text;
 
-use memory::{Lent, lend, lend_built};
+use memory::Memory;
 use printing::head;
-use text::{letter, number};
+use text::Case;
 
 // The cases of pools and of the memory of images, and what begins the answer to any.
-pub fn remember(
-    rt: &impl Print,
-    line: &[u8],
-    pool: &mut [u32],
-    labels: &mut [u16],
-    values: &mut [u32],
-    words: &mut [u64],
-    scratch: &mut [u32],
-    before: Lent,
-) -> Lent {
-    let letter = letter(line);
-    let n = number(line);
-    let lent = lend(letter, n, before);
-    let size = lent.pool;
-    head(rt, line);
-    pools::answer(rt, letter, n, line, pool, size);
-    let built = images::answer(
-        rt, letter, n, line, pool, labels, values, words, scratch, size,
-    );
-    lend_built(built, lent)
+pub fn remember(rt: &impl Print, case: Case, memory: &mut Memory) {
+    head(rt, case);
+    pools::answer(rt, case, memory);
+    images::answer(rt, case, memory);
 }

@@ -31,7 +31,8 @@ fn read_path<R: Files + Eprint>(rt: &R, path: &str, room: &mut [u8]) -> usize
     }
 }
 
-// Reads until the room is full, the file ends or a read fails, and answers how many bytes stand in the room.
+// Reads until the room is full, the file ends or a read fails, and answers how many bytes stand in the room. Of these
+// `read_exact` tells nothing, and `read_to_end` asks for a heap.
 fn read_full(file: &mut impl Read, room: &mut [u8]) -> usize
     ensures { IsPrefixLen result room.new }
 {

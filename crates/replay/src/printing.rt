@@ -1,93 +1,120 @@
 // What an answer is written with: words, numbers in decimal and bytes in hexadecimal, each with a space before it.
 // A write that fails is passed over: what comes behind it is written all the same.
-use crate::text::{letter, line_at};
+ghost use Rattle.std.specs.Prelude.{◌≡◌, None, MatchOption};
+ghost use Rattle.std.specs.Result.{result_ok};
 
-// Where each word begins in the list of words.
-pub const REFUSED: usize = 0;
+use crate::text::Case;
+use keymap::Refusal;
+use std::fmt::Display;
 
-pub const DONE: usize = 9;
+pub const REFUSED: &[u8] = b" refused";
 
-pub const LABELS: usize = 15;
+pub const DONE: &[u8] = b" done";
 
-pub const VALUES: usize = 23;
+pub const LABELS: &[u8] = b" labels";
 
-pub const WORDS: usize = 31;
+pub const VALUES: &[u8] = b" values";
 
-pub const SCRATCH: usize = 38;
+pub const WORDS: &[u8] = b" words";
 
-pub const ACCEPTED: usize = 47;
+pub const SCRATCH: &[u8] = b" scratch";
 
-pub const NONE: usize = 57;
+pub const ACCEPTED: &[u8] = b" accepted";
 
-pub const YES: usize = 63;
+pub const NONE: &[u8] = b" none";
 
-pub const NO: usize = 68;
+pub const YES: &[u8] = b" yes";
 
-pub const BAR: usize = 72;
+pub const NO: &[u8] = b" no";
 
-pub const END: usize = 75;
+pub const BAR: &[u8] = b" |";
 
-pub const TOP: usize = 80;
+pub const END: &[u8] = b" end";
 
-pub const LAST: usize = 85;
+pub const TOP: &[u8] = b" top";
 
-pub const FINISHED: usize = 91;
+pub const LAST: &[u8] = b" last";
 
-pub const AT: usize = 101;
+pub const FINISHED: &[u8] = b" finished";
 
-pub const PREFIX: usize = 105;
+pub const AT: &[u8] = b" at";
 
-pub const MATCH: usize = 113;
+pub const PREFIX: &[u8] = b" prefix";
 
-pub const BOTH: usize = 120;
+pub const MATCH: &[u8] = b" match";
 
-pub const OK: usize = 126;
+pub const BOTH: &[u8] = b" both";
 
-pub const ERR: usize = 130;
+pub const OK: &[u8] = b" ok";
+
+pub const ERR: &[u8] = b" err";
 
 pub fn text(rt: &impl Print, bytes: &[u8]) {
     let _ = rt.write_all(bytes);
-}
-
-pub fn word(rt: &impl Print, begin: usize) {
-    text(
-        rt,
-        line_at(
-            b" refused\n done\n labels\n values\n words\n scratch\n accepted\n none\n yes\n no\n |\n end\n top\n last\n finished\n at\n prefix\n match\n both\n ok\n err",
-            begin,
-        ),
-    );
 }
 
 pub fn byte(rt: &impl Print, b: u8) {
     text(rt, &[b]);
 }
 
-pub fn number(rt: &impl Print, n: u64) {
+pub fn number<N: Display + Drop>(rt: &impl Print, n: N) {
     let _ = print!(rt; " {n}");
 }
 
-pub fn refused(rt: &impl Print, refusal: u32) {
-    word(rt, REFUSED);
-    number(rt, refusal as u64);
+pub fn show<T: Display>(rt: &impl Print, all: &[T]) {
+    for entry in all {
+        number(rt, entry);
+    }
+}
+
+pub fn refused(rt: &impl Print, refusal: Refusal) {
+    text(rt, REFUSED);
+    number(rt, refusal.number());
+}
+
+// What a call answered; a refusal is written instead.
+pub fn accepted<T>(rt: &impl Print, answer: Result<T, Refusal>) -> Option<T>
+    ensures { result ≡ result_ok answer }
+{
+    match answer {
+        Ok(value) => Some(value),
+        Err(refusal) => {
+            refused(rt, refusal);
+            None
+        }
+    }
+}
+
+// Writes the number that a call found, or `none`, and answers it.
+pub fn found<N: Display + Copy>(rt: &impl Print, answer: Result<Option<N>, Refusal>) -> Option<N>
+    ensures { MatchOption (result_ok answer) (result ≡ None) (λ found. result ≡ found) }
+{
+    match accepted(rt, answer)? {
+        Some(n) => {
+            number(rt, n);
+            Some(n)
+        }
+        None => {
+            text(rt, NONE);
+            None
+        }
+    }
 }
 
 // What begins an answer: the letter of the case. A title is written as it stands.
-pub fn head(rt: &impl Print, line: &[u8]) {
-    if letter(line) == b'#' {
-        text(rt, line);
-        return;
+pub fn head(rt: &impl Print, case: Case) {
+    if case.letter == b'#' {
+        text(rt, case.line);
+    } else {
+        byte(rt, case.letter);
     }
-    byte(rt, letter(line));
 }
 
-// The word, or a refusal by its number.
-pub fn done(rt: &impl Print, begin: usize, refusal: u32) {
-    if refusal == 0 {
-        word(rt, begin);
-        return;
+// The word of a call that is done.
+pub fn done(rt: &impl Print, word: &[u8], answer: Result<(), Refusal>) {
+    if accepted(rt, answer).is_some() {
+        text(rt, word);
     }
-    refused(rt, refusal);
 }
 
 // Nothing where there are no bytes.

@@ -1,110 +1,77 @@
 // The lines of a list and what stands in them: a letter, a space, eight hexadecimal digits, a space, and two digits for
 // each byte.
-ghost use Rattle.std.specs.Prelude.{◌≡◌, ◌-◌, ◌≤◌, length, get_or};
+ghost use Rattle.std.specs.Prelude.{◌≡◌, ◌-◌, ◌==◌, if◌then◌else◌, length, get_or, take, drop};
 ghost use Rattle.io.specs.Counts.{IsPrefixLen};
 
-use crate::counts::of_bytes;
+use crate::entries::{Entry, hex, store_front};
+use crate::parts::part;
 
-const LF: u8 = 10;
 // Where the number of a line begins, and where its bytes do.
 const NUMBER: usize = 2;
 
-pub const BYTES: usize = 11;
+const BYTES: usize = 11;
 
-// The line that begins at `from`, up to its LF or the end of the text.
-pub fn line_at(text: &[u8], from: usize) -> &[u8]
-    ensures { length result.now ≤ length text.now - from }
-{
-    let mut end = from;
-    if text.len() < from {
-        return &text[..0];
-    }
-    while end < text.len() {
-        if text[end] == LF {
-            return &text[from..end];
+// What stands in a line. The bytes are still spelled.
+#[derive(Clone, Copy)]
+pub struct Case<'a> {
+    pub line: &'a [u8],
+    pub letter: u8,
+    pub number: u32,
+    pub digits: &'a [u8],
+}
+
+impl<'a> Case<'a> {
+    pub fn new(line: &'a [u8]) -> Case<'a>
+        ensures line { result.line.now ≡ line.now }
+        ensures letter { result.letter ≡ get_or line.now 0 0 }
+        ensures digits { result.digits.now ≡ drop 11 line.now }
+        ensures count { length result.digits.now ≡ length line.now - 11 }
+    {
+        Case {
+            line,
+            letter: letter(line),
+            number: u32::spelled(part(line, NUMBER, 8)),
+            digits: part(line, BYTES, line.len()),
         }
-        end += 1;
     }
-    &text[from..]
+
+    // The key or query: the line's bytes, or, for the letters that say so, as many of what stands in `out` as the
+    // number says. It stands at the start of `out`, and its length is answered.
+    pub fn key(self, out: &mut [u8]) -> usize
+        ensures { IsPrefixLen result out.new }
+    {
+        match self.letter {
+            b'E' | b'J' | b'Q' => (self.number as usize).min(out.len()),
+            _ => store_front(out, self.digits),
+        }
+    }
+}
+
+// A piece of a list without the LF that ends it.
+pub fn line_of(piece: &[u8]) -> &[u8]
+    ensures { result.now ≡ (if get_or piece.now (length piece.now - 1) 0 == 10
+        then take (length piece.now - 1) piece.now else piece.now) }
+{
+    match piece.split_last() {
+        Some((b'\n', line)) => line,
+        _ => piece,
+    }
 }
 
 // The first byte of a line, 0 where it is empty.
 pub fn letter(line: &[u8]) -> u8
     ensures { result ≡ get_or line.now 0 0 }
 {
-    if 0 < line.len() {
-        return line[0];
-    }
-    0
+    line.first().copied().unwrap_or(0)
 }
 
-// The value of a digit; of any other byte, no matter what.
-fn digit(glyph: u8) -> u64 {
-    if 97 <= glyph {
-        return (glyph - 87) as u64;
-    }
-    if 48 <= glyph {
-        return (glyph - 48) as u64;
-    }
-    0
-}
-
-// The number that the digits from an index on spell, as many as are asked or there are.
-pub fn hex(line: &[u8], from: usize, count: usize) -> u64 {
-    let mut n = 0;
-    let mut at = from;
-    let mut left = count;
-    while at < line.len() {
-        if left == 0 {
-            return n;
-        }
-        n = n << 4 | digit(line[at]);
-        at += 1;
-        left -= 1;
-    }
-    n
-}
-
-pub fn number(line: &[u8]) -> u32 {
-    (hex(line, NUMBER, 8) % 4294967296) as u32
-}
-
-// How many digits the line's bytes have.
-pub fn digits(line: &[u8]) -> usize
-    ensures { result ≡ length line.now - 11 }
-{
-    if line.len() < BYTES {
-        return 0;
-    }
-    line.len() - BYTES
-}
-
-// Puts the line's bytes at the start of `out`, as far as they fit, and answers how many there are.
-pub fn bytes(line: &[u8], out: &mut [u8]) -> usize
-    ensures { IsPrefixLen result out.new }
-{
-    let mut at = BYTES;
-    let mut count = 0;
-    while at < line.len() {
-        if out.len() <= count {
-            return count;
-        }
-        out[count] = (hex(line, at, 2) % 256) as u8;
-        count += 1;
-        at += 2;
-    }
-    count
-}
-
-// The key or query of a case: the line's bytes, or, for the letters that say so, as many of what stands in `out` as the
-// number says.
-pub fn key(letter: u8, n: u32, line: &[u8], out: &mut [u8]) -> usize
-    ensures { IsPrefixLen result out.new }
-{
-    match letter {
-        b'E' => of_bytes(out, n as usize),
-        b'J' => of_bytes(out, n as usize),
-        b'Q' => of_bytes(out, n as usize),
-        _ => bytes(line, out),
-    }
+// The lengths of labels, values, words and scratch, four digits each.
+pub fn lengths(digits: &[u8]) -> [usize; 4] {
+    let all = hex(part(digits, 0, 16));
+    [
+        (all >> 48) as usize,
+        (all >> 32 & 65535) as usize,
+        (all >> 16 & 65535) as usize,
+        (all & 65535) as usize,
+    ]
 }

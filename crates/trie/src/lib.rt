@@ -9,7 +9,7 @@
 
 pub mod place;
 
-pub use listings::answers::{Cursor, Kind, Step};
+pub use listings::answers::{Cursor, Kind, Stepped};
 pub use listings::{cursor_key, postfix_search, predictive_search, step};
 pub use searches::answers::Common;
 pub use searches::{

@@ -34,6 +34,7 @@ fn is_stand(len: usize, node: usize, zero: usize) -> bool
     zero < len && node != 0 && node <= zero + 1
 }
 
+#[tactic(auto, unfolding(crate::specs::Stands::kids_from, crate::specs::Stands::is_stand))]
 // The children of a stand: the ones behind its zero, up to the next zero or the end. A stand that cannot be one has
 // none.
 pub fn kids(words: &[u64], len: usize, s: Stand) -> Kids
@@ -55,6 +56,7 @@ pub fn kids(words: &[u64], len: usize, s: Stand) -> Kids
     }
 }
 
+#[tactic(auto, unfolding(crate::specs::Stands::kid_from))]
 // The stand at node m, a child of node k: its zero is looked for from the one behind the children of k on.
 pub fn kid_at(words: &[u64], len: usize, k: usize, next: usize, m: usize) -> Stand
     ensures { result ≡ kid_from (bit words.now) len k next m }

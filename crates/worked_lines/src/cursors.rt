@@ -1,159 +1,123 @@
 // The cases of listings. The cursor is handed in and the one to go on with handed back.
-use crate::held::{Held, cursor, hold};
-use crate::spelling::spell;
-use replay::memory::LONGEST;
-use replay::printing::{BAR, END, FINISHED, LAST, TOP, number, refused, word};
-use replay::text::hex;
-use trie::{Started, Stepped};
+use crate::spelling::key;
+use keymap::Refusal;
+use replay::entries::{Entry, hex};
+use replay::memory::{LONGEST, LentImage};
+use replay::parts::part;
+use replay::printing::{BAR, END, FINISHED, LAST, TOP, accepted, number, text};
+use replay::text::Case;
+use trie::{Cursor, Kind, Stepped};
 
-// Where the kind and the top of a cursor stand in a line.
-const KIND: usize = 11;
+// The most steps of a listing: one for each of 4,096 nodes, and two ends.
+const STEPS: u32 = 4098;
 
-const TOP_AT: usize = 13;
-
-fn tell(rt: &impl Print, held: Held) {
-    number(rt, held.kind as u64);
-    if held.open {
-        word(rt, TOP);
-        number(rt, held.top as u64);
-        word(rt, LAST);
-        number(rt, held.last as u64);
-        return;
+fn tell(rt: &impl Print, cursor: Cursor) {
+    match cursor {
+        Cursor::Open { kind, top, last } => {
+            number(rt, kind as u32);
+            text(rt, TOP);
+            number(rt, top);
+            text(rt, LAST);
+            number(rt, last);
+        }
+        Cursor::Finished { kind } => {
+            number(rt, kind as u32);
+            text(rt, FINISHED);
+        }
     }
-    word(rt, FINISHED);
 }
 
-// The cursor stays as it was.
-fn refuse(rt: &impl Print, held: Held, refusal: u32) -> Held {
-    let mut after = held;
-    refused(rt, refusal);
-    after.refused = true;
-    after
-}
-
-fn stepped(rt: &impl Print, answer: Stepped, held: Held) -> Held {
-    match answer {
+// The cursor to go on with, none where the step is refused.
+fn step(rt: &impl Print, image: LentImage, cursor: Cursor) -> Option<Cursor> {
+    match accepted(
+        rt,
+        trie::step(image.labels, image.values, image.words, cursor),
+    )? {
         Stepped::Gave { node, value, next } => {
-            number(rt, node as u64);
-            number(rt, value as u64);
-            hold(held.place, next)
+            number(rt, node);
+            number(rt, value);
+            Some(next)
         }
         Stepped::End { next } => {
-            word(rt, END);
-            hold(held.place, next)
+            text(rt, END);
+            Some(next)
         }
-        _ => refuse(rt, held, answer.number()),
-    }
-}
-
-fn step(rt: &impl Print, labels: &[u16], values: &[u32], words: &[u64], held: Held) -> Held {
-    stepped(rt, trie::step(labels, values, words, cursor(held)), held)
-}
-
-fn started(rt: &impl Print, answer: Started, held: Held) -> Held {
-    match answer {
-        Started::At(first) => hold(held.place, first),
-        _ => refuse(rt, held, answer.number()),
     }
 }
 
 // A whole listing, each step with the key that it gave, up to the second end. There are no more keys than nodes.
-fn listing(
-    rt: &impl Print,
-    labels: &[u16],
-    values: &[u32],
-    words: &[u64],
-    query: &[u8],
-    first: Held,
-) -> Held {
-    let mut held = first;
+fn listing(rt: &impl Print, image: LentImage, first: Cursor) -> Cursor {
+    let mut cursor = first;
     let mut ended = false;
-    let mut turns = 4098u32;
-    while turns > 0 {
-        turns -= 1;
-        word(rt, BAR);
-        held = step(rt, labels, values, words, held);
-        if held.open {
-            spell(rt, b'K', LONGEST, query, labels, values, words, held);
+    tell(rt, first);
+    for _ in 0..STEPS {
+        text(rt, BAR);
+        cursor = step(rt, image, cursor).unwrap_or(cursor);
+        if let Cursor::Open { .. } = cursor {
+            key(rt, image, cursor, LONGEST);
+        } else if ended {
+            return cursor;
         } else {
-            if ended {
-                return held;
-            }
             ended = true;
         }
     }
-    held
+    cursor
 }
 
-fn list(
-    rt: &impl Print,
-    labels: &[u16],
-    values: &[u32],
-    words: &[u64],
-    query: &[u8],
-    first: Held,
-) -> Held {
-    if first.refused {
-        return first;
-    }
-    tell(rt, first);
-    listing(rt, labels, values, words, query, first)
+fn list(rt: &impl Print, image: LentImage, answer: Result<Cursor, Refusal>) -> Option<Cursor> {
+    let first = accepted(rt, answer)?;
+    Some(listing(rt, image, first))
 }
 
-fn told(rt: &impl Print, held: Held) -> Held {
-    if !held.refused {
-        tell(rt, held);
-    }
-    held
+fn step_once(rt: &impl Print, image: LentImage, cursor: Cursor) -> Option<Cursor> {
+    let next = step(rt, image, cursor)?;
+    tell(rt, next);
+    Some(next)
 }
 
-// A cursor of any numbers; with no top it is finished.
-fn made(last: u32, line: &[u8], held: Held) -> Held {
-    Held {
-        place: held.place,
-        open: TOP_AT < line.len(),
-        kind: (hex(line, KIND, 2) % 2) as u32,
-        top: (hex(line, TOP_AT, 8) % 4294967296) as u32,
-        last,
-        refused: false,
-    }
+// A cursor of any numbers: a kind in two digits, and a top in eight; with no top it is finished.
+fn made(rt: &impl Print, case: Case) -> Cursor {
+    let kind = match hex(part(case.digits, 0, 2)) % 2 {
+        0 => Kind::Predictive,
+        _ => Kind::Postfix,
+    };
+    let top = part(case.digits, 2, 8);
+    let cursor = if top.is_empty() {
+        Cursor::finished(kind)
+    } else {
+        Cursor::Open {
+            kind,
+            top: u32::spelled(top),
+            last: case.number,
+        }
+    };
+    tell(rt, cursor);
+    cursor
 }
 
-// The answer to a case that is a cursor's; no other writes anything.
+// The answer to a case that is a cursor's, and the cursor to go on with: a refusal leaves it as it was. No other case
+// writes anything.
 pub fn answer(
     rt: &impl Print,
-    letter: u8,
-    n: u32,
-    line: &[u8],
+    case: Case,
     query: &[u8],
-    labels: &[u16],
-    values: &[u32],
-    words: &[u64],
-    held: Held,
-) -> Held {
-    match letter {
+    image: LentImage,
+    cursor: Cursor,
+) -> Cursor {
+    let next = match case.letter {
         b'f' => list(
             rt,
-            labels,
-            values,
-            words,
-            query,
-            started(
-                rt,
-                trie::predictive_search(labels, values, words, query),
-                held,
-            ),
+            image,
+            trie::predictive_search(image.labels, image.values, image.words, query),
         ),
         b'g' => list(
             rt,
-            labels,
-            values,
-            words,
-            query,
-            started(rt, trie::postfix_search(labels, values, words, query), held),
+            image,
+            trie::postfix_search(image.labels, image.values, image.words, query),
         ),
-        b'C' => told(rt, made(n, line, held)),
-        b'S' => told(rt, step(rt, labels, values, words, held)),
-        _ => held,
-    }
+        b'C' => Some(made(rt, case)),
+        b'S' => step_once(rt, image, cursor),
+        _ => None,
+    };
+    next.unwrap_or(cursor)
 }

@@ -10,145 +10,59 @@ mod queries;
 mod spelling;
 
 use held::Held;
-use replay::counts::{of_labels, of_values, of_words};
 use replay::lists::read_lists;
-use replay::memory::{LONGEST, Lent, nothing};
+use replay::memory::{LONGEST, Lent, LentImage, Memory};
 use replay::printing::byte;
-use replay::text::{letter, line_at, number};
-use replay::{images, remember, text};
+use replay::text::{Case, line_of};
+use replay::{images, remember};
 
 // The longest that both lists are.
 const LIST_BYTES: usize = 655360;
 
-// The cases that read the image that is lent.
-fn read(
-    rt: &impl Print,
-    line: &[u8],
-    query: &[u8],
-    labels: &[u16],
-    values: &[u32],
-    words: &[u64],
-    held: Held,
-) -> Held {
-    let letter = letter(line);
-    let n = number(line);
-    images::look(rt, letter, labels, values, words);
-    queries::answer(rt, letter, n, query, labels, values, words);
-    spelling::answer(rt, letter, n, query, labels, values, words, held);
-    let moved = incremental::answer(rt, letter, n, query, labels, values, words, held);
-    cursors::answer(rt, letter, n, line, query, labels, values, words, moved)
-}
-
-// The case that sets a value, over as much of the memory as is lent.
-fn set(
-    rt: &impl Print,
-    line: &[u8],
-    labels: &[u16],
-    values: &mut [u32],
-    words: &[u64],
-    lent: Lent,
-) {
-    let mut space = [0u8; LONGEST];
-    let k = text::bytes(line, &mut space);
-    let a = of_labels(labels, lent.labels);
-    let b = of_values(values, lent.values);
-    let c = of_words(words, lent.words);
-    queries::set_value(
-        rt,
-        number(line),
-        &space[..k],
-        &labels[..a],
-        &mut values[..b],
-        &words[..c],
-    );
-}
-
-// The other cases that search, and the one that reads all of the memory.
-fn look(
-    rt: &impl Print,
-    line: &[u8],
-    labels: &[u16],
-    values: &[u32],
-    words: &[u64],
-    scratch: &[u32],
-    lent: Lent,
-    held: Held,
-) -> Held {
-    let letter = letter(line);
-    if letter == b'h' {
-        images::look_at(rt, line, labels, values, words, scratch);
-        return held;
+// The cases that read the image that is lent, and what is held after them.
+fn read(rt: &impl Print, case: Case, query: &[u8], image: LentImage, held: Held) -> Held {
+    images::look(rt, case.letter, image);
+    queries::answer(rt, case, query, image);
+    spelling::answer(rt, case, query, image, held);
+    Held {
+        place: incremental::answer(rt, case, query, image, held.place),
+        cursor: cursors::answer(rt, case, query, image, held.cursor),
     }
+}
+
+// The cases that search, the one that sets a value, and the one that reads all of the memory.
+fn search(rt: &impl Print, case: Case, memory: &mut Memory, held: Held) -> Held {
     let mut space = [b'a'; LONGEST];
-    let k = text::key(letter, number(line), line, &mut space);
-    let a = of_labels(labels, lent.labels);
-    let b = of_values(values, lent.values);
-    let c = of_words(words, lent.words);
-    read(
-        rt,
-        line,
-        &space[..k],
-        &labels[..a],
-        &values[..b],
-        &words[..c],
-        held,
-    )
-}
-
-fn search(
-    rt: &impl Print,
-    line: &[u8],
-    labels: &[u16],
-    values: &mut [u32],
-    words: &[u64],
-    scratch: &[u32],
-    lent: Lent,
-    held: Held,
-) -> Held {
-    if letter(line) == b's' {
-        set(rt, line, labels, values, words, lent);
-        return held;
+    let k = case.key(&mut space);
+    let query = &space[..k];
+    match case.letter {
+        b's' => queries::set_value(rt, case.number, query, memory),
+        b'h' => images::look_at(rt, case, memory),
+        _ => return read(rt, case, query, memory.image(), held),
     }
-    look(rt, line, labels, values, words, scratch, lent, held)
+    held
 }
 
-fn replay(
-    rt: &impl Print,
-    list: &[u8],
-    pool: &mut [u32],
-    labels: &mut [u16],
-    values: &mut [u32],
-    words: &mut [u64],
-    scratch: &mut [u32],
-) {
-    let mut lent = nothing();
-    let mut held = held::nothing();
-    let mut from = 0;
-    while from < list.len() {
-        let line = line_at(list, from);
-        from += line.len();
-        from += 1;
-        lent = remember(rt, line, pool, labels, values, words, scratch, lent);
-        held = search(rt, line, labels, values, words, scratch, lent, held);
+fn replay(rt: &impl Print, list: &[u8], memory: &mut Memory) {
+    let mut held = Held::new();
+    for piece in list.split_inclusive(|&byte| byte == b'\n') {
+        let case = Case::new(line_of(piece));
+        remember(rt, case, memory);
+        held = search(rt, case, memory, held);
         byte(rt, b'\n');
     }
 }
 
 fn main(rt: HostRuntime) {
     let mut room = [0u8; LIST_BYTES];
-    let mut pool = [0u32; 20500];
-    let mut labels = [0u16; 4100];
-    let mut values = [0u32; 4100];
-    let mut words = [0u64; 130];
-    let mut scratch = [0u32; 4096];
+    let mut memory = Memory {
+        pool: [0; 20500],
+        labels: [0; 4100],
+        values: [0; 4100],
+        words: [0; 130],
+        scratch: [0; 4096],
+        lent: Lent::default(),
+    };
     let n = read_lists(&rt, b"rust_cases", b"document_cases", &mut room);
-    replay(
-        &rt,
-        &room[..n],
-        &mut pool,
-        &mut labels,
-        &mut values,
-        &mut words,
-        &mut scratch,
-    );
+    replay(&rt, &room[..n], &mut memory);
 }

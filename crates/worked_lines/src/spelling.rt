@@ -1,119 +1,67 @@
 // The cases that write a key or prefix into a buffer.
-use crate::held::{Held, cursor};
-use replay::counts::of_bytes;
-use replay::memory::LONGEST;
-use replay::printing::{NONE, bytes, number, refused, word};
+use crate::held::Held;
+use keymap::Refusal;
+use replay::memory::{LONGEST, LentImage};
+use replay::parts::part;
+use replay::printing::{bytes, found};
+use replay::text::Case;
+use trie::Cursor;
 use trie::place::Place;
-use trie::{Longest, Spelled};
 
 // How many bytes were written into the buffer.
-fn spelled(rt: &impl Print, answer: Spelled) -> usize {
-    match answer {
-        Spelled::Wrote(length) => {
-            number(rt, length as u64);
-            length
-        }
-        _ => {
-            refused(rt, answer.number());
-            0
-        }
-    }
+fn written(rt: &impl Print, answer: Result<Option<usize>, Refusal>) -> usize {
+    found(rt, answer).unwrap_or(0)
 }
 
-fn longest(rt: &impl Print, answer: Longest) -> usize {
-    match answer {
-        Longest::Wrote(length) => {
-            number(rt, length as u64);
-            length
-        }
-        Longest::NoMatch => {
-            word(rt, NONE);
-            0
-        }
-        _ => {
-            refused(rt, answer.number());
-            0
-        }
-    }
-}
-
-// What was written, of a buffer.
-fn written(rt: &impl Print, out: &[u8], length: usize) {
-    let n = of_bytes(out, length);
-    bytes(rt, &out[..n]);
-}
-
-fn spell_into(
-    rt: &impl Print,
-    letter: u8,
-    query: &[u8],
-    labels: &[u16],
-    values: &[u32],
-    words: &[u64],
-    held: Held,
-    out: &mut [u8],
-) {
-    if letter == b'M' {
-        let length = longest(rt, trie::longest_prefix(labels, values, words, query, out));
-        written(rt, out, length);
-        return;
-    }
-    if letter == b'K' {
-        let length = spelled(
-            rt,
-            trie::cursor_key(labels, values, words, cursor(held), out),
-        );
-        written(rt, out, length);
-        return;
-    }
-    let length = spelled(
-        rt,
-        trie::place::prefix(labels, values, words, Place { node: held.place }, out),
-    );
-    written(rt, out, length);
-}
-
-// By the letter: the longest prefix (M), the cursor's key (K) or the place's path (X), into so many bytes.
-pub fn spell(
-    rt: &impl Print,
-    letter: u8,
-    room: usize,
-    query: &[u8],
-    labels: &[u16],
-    values: &[u32],
-    words: &[u64],
-    held: Held,
-) {
+// What is written into so many bytes: as many as `write` answers.
+fn spell<F: FnOnce(&mut [u8]) -> usize>(rt: &impl Print, room: usize, write: F)
+    requires { F.IsAlwaysCallable write }
+{
     let mut space = [0u8; LONGEST];
-    let n = of_bytes(&space, room);
-    spell_into(
-        rt,
-        letter,
-        query,
-        labels,
-        values,
-        words,
-        held,
-        &mut space[..n],
-    );
+    let out = &mut space[..];
+    let n = room.min(out.len());
+    let length = write(&mut out[..n]);
+    bytes(rt, part(&space, 0, length.min(n)));
+}
+
+// The longest prefix, into so many bytes.
+fn longest_prefix(rt: &impl Print, image: LentImage, query: &[u8], room: usize) {
+    spell(rt, room, |out| {
+        written(
+            rt,
+            trie::longest_prefix(image.labels, image.values, image.words, query, out),
+        )
+    });
+}
+
+// The cursor's key, into so many bytes.
+pub fn key(rt: &impl Print, image: LentImage, cursor: Cursor, room: usize) {
+    spell(rt, room, |out| {
+        written(
+            rt,
+            trie::cursor_key(image.labels, image.values, image.words, cursor, out).map(Some),
+        )
+    });
+}
+
+// The place's path, into so many bytes.
+pub fn path(rt: &impl Print, image: LentImage, place: Place, room: usize) {
+    spell(rt, room, |out| {
+        written(
+            rt,
+            trie::place::prefix(image.labels, image.values, image.words, place, out).map(Some),
+        )
+    });
 }
 
 // The answer to a case that writes into a buffer; no other writes anything.
-pub fn answer(
-    rt: &impl Print,
-    letter: u8,
-    n: u32,
-    query: &[u8],
-    labels: &[u16],
-    values: &[u32],
-    words: &[u64],
-    held: Held,
-) {
-    match letter {
-        b'l' => spell(rt, b'M', LONGEST, query, labels, values, words, held),
-        b'M' => spell(rt, b'M', n as usize, query, labels, values, words, held),
-        b'K' => spell(rt, b'K', n as usize, query, labels, values, words, held),
-        b'X' => spell(rt, b'X', n as usize, query, labels, values, words, held),
+pub fn answer(rt: &impl Print, case: Case, query: &[u8], image: LentImage, held: Held) {
+    let room = case.number as usize;
+    match case.letter {
+        b'l' => longest_prefix(rt, image, query, LONGEST),
+        b'M' => longest_prefix(rt, image, query, room),
+        b'K' => key(rt, image, held.cursor, room),
+        b'X' => path(rt, image, held.place, room),
         _ => (),
     }
 }

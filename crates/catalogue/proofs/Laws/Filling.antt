@@ -1,6 +1,6 @@
 -- Laws of lines pushed in turn. An accepted line is an insert of its entry, so that lines accepted whole leave the map of their entries.
 --
---     pushed-said                      what a push says is its number
+--     not-accepted                     a refusal is told from an answer
 --     entry-said, entry-none           the entry of a line, by what `tab_line` answered
 --     line_refused                     a refused line leaves the pool as it was
 --     fill_end, fill-goes, fill_stops  the equations of `fill_from` and `left_from`, by what one line says
@@ -15,22 +15,20 @@ use Prim.Native.Nat.{ℕ, suc, ◌≤◌, ◌<◌}
 use native.Mathlib.Omega.{arith}
 use mathlib.Core.Bool.{Bool, true, false}
 use mathlib.Core.List.{List, [], ◌∷◌, ◌++◌}
-use Rattle.std.specs.Prelude.{Option, None, Some}
+use Rattle.std.specs.Prelude.{Option, None, Some, Result, Ok, Err}
 use lib.ListN.{length, get_or, take}
-use lib.Dec.{eqb}
-use borrow.Author.Tests.{eq-eqb, ne_eqb, eqb-false}
+use lib.Dec.{eqb, lit≤}
+use borrow.Author.Tests.{ne_eqb, eqb-false}
 use Rattle.keymap.specs.Limits.{byte_limit}
 use Rattle.keymap.specs.Key.{Bytes}
-use Rattle.keymap.specs.Answers.{answer_number}
 use Rattle.keymap.specs.Map.{Entry, insert_all}
-use Rattle.keymap.specs.Refusals.{refuses}
+use Rattle.keymap.specs.Refusals.{refusal_number, refuses}
 use Rattle.keymap.specs.declared.refusals.Refusal.{Refusal}
 use Rattle.keymap.proofs.Laws.Begins.{bytes-prefix, prefix-leading}
 use Rattle.records.specs.Words.{Pool, record_words}
 use Rattle.records.specs.Sound.{Sound}
 use Rattle.records.specs.Meaning.{pool_map}
-use Rattle.pool.specs.declared.answers.Pushed.{Pushed}
-use Rattle.pool.specs.Answers.{said_pushed, accepted}
+use Rattle.pool.specs.Answers.{accepted}
 use Rattle.pool.specs.Reset.{reset_pool}
 use Rattle.pool.specs.Push.{push_says, push_pool}
 use Rattle.pool.proofs.Laws.Reset.{reset-sound}
@@ -40,19 +38,26 @@ use Rattle.lines.specs.Bytes.{tab, line_feed, stretch}
 use Rattle.lines.specs.TabLine.{key_part, tab_entry, entry_says, entry_key, tab_line_says, tab_line_key}
 use Rattle.lines.specs.Text.{in_first, lines_of, entry_lines}
 use Rattle.lines.proofs.Laws.TabLine.{tab_entry-some}
-use Rattle.catalogue.specs.declared.filling.Filled as answers
+use Rattle.catalogue.specs.declared.filling.Refused.{Refused}
 use Rattle.catalogue.specs.TextAnswers.{entries_in}
 use Rattle.catalogue.specs.Filling.{said_filled, line_says, line_pool, fill_from, left_from, fill_pool, HeldIf}
 
 -- ---- one line
 
--- a push answers one number
-pub pushed-said : (r : Pushed) → answer_number (said_pushed r) ∷ [] ≡ said_pushed r
-pushed-said Pushed.Done = refl
-pushed-said Pushed.PoolTooSmall = refl
-pushed-said Pushed.NotAPool = refl
-pushed-said Pushed.EmptyKey = refl
-pushed-said Pushed.NoRoom = refl
+-- the numbers of refusals
+number-range : (r : Refusal) → (1 ≤ refusal_number r) × (refusal_number r ≤ 9)
+number-range Refusal.PoolTooSmall = (lit≤ tt, lit≤ tt)
+number-range Refusal.NotAPool = (lit≤ tt, lit≤ tt)
+number-range Refusal.EmptyKey = (lit≤ tt, lit≤ tt)
+number-range Refusal.NoRoom = (lit≤ tt, lit≤ tt)
+number-range Refusal.OutTooSmall = (lit≤ tt, lit≤ tt)
+number-range Refusal.NotAnImage = (lit≤ tt, lit≤ tt)
+number-range Refusal.BadPlace = (lit≤ tt, lit≤ tt)
+number-range Refusal.KeyRoom = (lit≤ tt, lit≤ tt)
+number-range Refusal.BadLine = (lit≤ tt, lit≤ tt)
+
+pub not-accepted : (r : Refusal) → accepted (refuses r) ≡ false
+not-accepted r = ne_eqb (refusal_number r) 0 (λ z. omega (arith, z, number-range r))
 
 pub entry-said : (line : List ℕ) (n v : ℕ) → tab_line_says line ≡ 0 ∷ n ∷ v ∷ [] → tab_entry line ≡ Some (tab_line_key line, v)
 unfolding tab_line_says tab_line_key
@@ -62,13 +67,13 @@ entry-said line n v = go (tab_entry line)
     go None h = absurd (let z : ◌≡◌ {A = ℕ} 0 1 = cc in omega arith)
     go (Some e) h = let same : e.1 ≡ v = cc in λ i. Some (e.0, same i)
 
-pub entry-none : (line : List ℕ) → tab_line_says line ≡ refuses Refusal.BadLine → tab_entry line ≡ None
+pub entry-none : (line : List ℕ) (r : Refusal) → tab_line_says line ≡ refuses r → (tab_entry line ≡ None) × (refuses Refusal.BadLine ≡ refuses r)
 unfolding tab_line_says
-entry-none line = go (tab_entry line)
+entry-none line r = go (tab_entry line)
   where
-    go : (o : Option Entry) → entry_says o ≡ refuses Refusal.BadLine → o ≡ None
-    go None h = refl
-    go (Some e) h = absurd (let z : ◌≡◌ {A = ℕ} 0 1 = cc in omega arith)
+    go : (o : Option Entry) → entry_says o ≡ refuses r → (o ≡ None) × (refuses Refusal.BadLine ≡ refuses r)
+    go None h = (refl, h)
+    go (Some e) h = cc
 
 -- a refused line leaves the pool as it was
 pub line_refused : (p : Pool) (o : Option Entry) → accepted (line_says p o) ≡ false → line_pool p o ≡ p
@@ -82,15 +87,16 @@ pub fill_end : (n : ℕ) (p : Pool) (ls : List (List ℕ)) → ls ≡ [] → (0 
 unfolding fill_from left_from
 fill_end n p ls e = rw e (refl, refl)
 
-module _ (n : ℕ) (p : Pool) (l : List ℕ) (ls : List (List ℕ)) (a : ℕ) (said : a ∷ [] ≡ line_says p (tab_entry l)) where
-  pub fill-goes : a ≡ 0 → (fill_from n p (l ∷ ls) ≡ fill_from (suc n) (line_pool p (tab_entry l)) ls) × (left_from p (l ∷ ls) ≡ left_from (line_pool p (tab_entry l)) ls)
+module _ (n : ℕ) (p : Pool) (l : List ℕ) (ls : List (List ℕ)) where
+  pub fill-goes : 0 ∷ [] ≡ line_says p (tab_entry l)
+      → (fill_from n p (l ∷ ls) ≡ fill_from (suc n) (line_pool p (tab_entry l)) ls) × (left_from p (l ∷ ls) ≡ left_from (line_pool p (tab_entry l)) ls)
   unfolding fill_from left_from
-  fill-goes z = let t : accepted (line_says p (tab_entry l)) ≡ true = ap accepted (sym said) ∙ eq-eqb a 0 z in (rw t, rw t)
+  fill-goes said = let t : accepted (line_says p (tab_entry l)) ≡ true = ap accepted (sym said) in (rw t, rw t)
 
-  pub fill_stops : ¬ (a ≡ 0) → (a ∷ n ∷ [] ≡ fill_from n p (l ∷ ls)) × (line_pool p (tab_entry l) ≡ left_from p (l ∷ ls))
+  pub fill_stops : (r : Refusal) → refuses r ≡ line_says p (tab_entry l) → (refusal_number r ∷ n ∷ [] ≡ fill_from n p (l ∷ ls)) × (line_pool p (tab_entry l) ≡ left_from p (l ∷ ls))
   unfolding fill_from left_from
-  fill_stops d =
-      let f : accepted (line_says p (tab_entry l)) ≡ false = ap accepted (sym said) ∙ ne_eqb a 0 d in
+  fill_stops r said =
+      let f : accepted (line_says p (tab_entry l)) ≡ false = ap accepted (sym said) ∙ not-accepted r in
       (rw f (ap (λ (s : List ℕ). s ++ (n ∷ [])) said), rw f (line_refused p (tab_entry l) f))
 
 -- ---- bytes
@@ -158,10 +164,10 @@ fill-means (l ∷ ls) n p s b h = go (tab_entry l) refl (λ q t. fill-means ls (
     go (Some e) f ih = pushed e f ih (accepted (push_says p e.0)) refl
 
 -- a text accepted whole after a reset
-pub filled-holds : (p : Pool) → record_words ≤ length p → (text : List ℕ) → Bytes text → (r : answers.Filled) → said_filled r ≡ fill_from 1 (reset_pool p) (entry_lines text)
+pub filled-holds : (p : Pool) → record_words ≤ length p → (text : List ℕ) → Bytes text → (r : Result (Unit {0}) Refused) → said_filled r ≡ fill_from 1 (reset_pool p) (entry_lines text)
     → HeldIf r (fill_pool p text) text
 unfolding fill_pool
-filled-holds p h text b answers.Filled.Done said =
+filled-holds p h text b (Ok u) said =
     let f = fill-means (entry_lines text) 0 (reset_pool p) (reset-sound p h) (lines-bytes text b) (sym said) in
     (f.sound, f.holds ∙ ap (insert_all (entries_in (entry_lines text))) (reset-means-empty p h))
-filled-holds p h text b (answers.Filled.Refused number line) said = tt
+filled-holds p h text b (Err r) said = tt

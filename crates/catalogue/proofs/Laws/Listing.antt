@@ -10,9 +10,10 @@ use mathlib.Core.Path.{◌≡◌, refl, sym, ap, subst, ◌∙◌}
 use mathlib.Core.Logic.{inl}
 use Prim.Native.Nat.{ℕ, ◌+◌, ◌-◌, ◌≤◌, ◌<◌}
 use native.Mathlib.Omega.{arith}
-use mathlib.Core.Bool.{true, cond}
+use mathlib.Core.Bool.{true, cond, true≢false}
 use mathlib.Core.List.{List, [], ◌∷◌, ◌++◌, append_assoc, append-nil}
-use Rattle.std.specs.Prelude.{Option, None, Some}
+use Rattle.std.specs.Prelude.{Option, None, Some, Result, Ok, Err}
+use Rattle.keymap.specs.declared.refusals.Refusal.{Refusal}
 use lib.ListN.{length, take, drop, length-append, length-drop, drop_of_length-le}
 use lib.Seq.{take_all}
 use lib.Dec.{leb}
@@ -38,14 +39,15 @@ use Rattle.listings.specs.declared.answers.Kind.{Kind}
 use Rattle.listings.specs.declared.answers.Kind.TheVariants as kinds
 use Rattle.listings.specs.declared.answers.Cursor.{Cursor}
 use Rattle.listings.specs.declared.answers.Cursor.TheVariants.{Open, Finished}
-use Rattle.listings.specs.declared.answers.Started.TheVariants.{At, NotAnImage}
 use Rattle.listings.specs.declared.answers.Stepped.{Stepped}
-use Rattle.listings.specs.declared.answers.Stepped.TheVariants as stepped
+use Rattle.listings.specs.declared.answers.Stepped.TheVariants as steps
 use Rattle.listings.specs.Answers.{said_cursor, said_started, said_stepped}
 use Rattle.listings.specs.Cursors.{set_of, belongs, start_says, next_in, says_step, step_in, step_says}
 use Rattle.listings.specs.GivenKey.{key_of, key_says, key_out}
 use Rattle.listings.proofs.Laws.Answers.{said_cursor-one, said_stepped-one}
 use Rattle.listings.proofs.Laws.Cursors.{belongs-fresh, start_says-accepted}
+use Rattle.pool.specs.Answers.{accepted}
+use Rattle.catalogue.proofs.Laws.Filling.{not-accepted}
 use Rattle.catalogue.proofs.Laws.Putting.{Put, put-start, put-behind}
 use Rattle.catalogue.proofs.Laws.Next.{next_entry, cursor_after, kind_of, rest_of, next-head, next-belongs, next-key, rest-step}
 
@@ -70,7 +72,7 @@ finished-belongs : (m : Map) (kind : Kind) → belongs m (Finished kind) ≡ tru
 unfolding belongs
 finished-belongs m kind = refl
 
-start-rest : (i : Image) → MapImage i → (c : Cursor) → said_started (At c) ≡ start_says kinds.Predictive i [] → Stands i c (image_map i)
+start-rest : (i : Image) → MapImage i → (c : Cursor) → said_started (Ok c) ≡ start_says kinds.Predictive i [] → Stands i c (image_map i)
 start-rest i image c h = go m refl
   where
     m : Map
@@ -104,8 +106,10 @@ start-rest i image c h = go m refl
           rest-is = ap (rest_of m) is ∙ ap (λ (q : Key). set_of m kinds.Predictive q) (path_of-node_of m [] root) ∙ all;
         }
 
-pub start-told : (i : Image) → MapImage i → (q : Key) → ¬ (said_started NotAnImage ≡ start_says kinds.Predictive i q)
-start-told i image q h = let e = h ∙ start_says-accepted i kinds.Predictive q (map_image-tested i image) in let z : ◌≡◌ {A = ℕ} 6 0 = cc in omega arith
+pub start-told : (i : Image) → MapImage i → (q : Key) (r : Refusal) → ¬ (said_started (Err r) ≡ start_says kinds.Predictive i q)
+start-told i image q r h =
+    let told = h ∙ start_says-accepted i kinds.Predictive q (map_image-tested i image) in
+    true≢false (sym (ap accepted told) ∙ not-accepted r)
 
 -- ---- what a step answered
 
@@ -114,24 +118,24 @@ end_of (Open kind top last) = Finished kind
 end_of (Finished kind) = Finished kind
 
 abbrev stepped_to : Map → Cursor → Option Entry → Stepped
-stepped_to m c None = stepped.End (end_of c)
-stepped_to m c (Some e) = stepped.Gave (node_of m e.0) e.1 (cursor_after m c e)
+stepped_to m c None = steps.End (end_of c)
+stepped_to m c (Some e) = steps.Gave (node_of m e.0) e.1 (cursor_after m c e)
 
-step_in_lem : (m : Map) (c : Cursor) → step_in m c ≡ said_stepped (stepped_to m c (next_entry m c))
+step_in_lem : (m : Map) (c : Cursor) → step_in m c ≡ said_stepped (Ok (stepped_to m c (next_entry m c)))
 step_in_lem m (Open kind top last) = go (next_in m (set_of m kind (path_of m top)) last)
   where
-    go : (o : Option Entry) → says_step m kind top o ≡ said_stepped (stepped_to m (Open kind top last) o)
+    go : (o : Option Entry) → says_step m kind top o ≡ said_stepped (Ok (stepped_to m (Open kind top last) o))
     go None = refl
     go (Some e) = refl
 step_in_lem m (Finished kind) = refl
 
-stands-step : (i : Image) → MapImage i → (c : Cursor) (rest : Map) → Stands i c rest → (r : Stepped) → said_stepped r ≡ step_says i c → r ≡ stepped_to (image_map i) c (head_of rest)
+stands-step : (i : Image) → MapImage i → (c : Cursor) (rest : Map) → Stands i c rest → (r : Result Stepped Refusal) → said_stepped r ≡ step_says i c → r ≡ Ok (stepped_to (image_map i) c (head_of rest))
 unfolding step_says
 stands-step i image c rest s r h =
     let m : Map = image_map i in
     let next : next_entry m c ≡ head_of rest = next-head m c ∙ ap head_of s.rest-is in
-    said_stepped-one r (stepped_to m c (head_of rest))
-    (h ∙ rw (map_image-tested i image, s.belonging) (step_in_lem m c) ∙ ap (λ (o : Option Entry). said_stepped (stepped_to m c o)) next)
+    said_stepped-one r (Ok (stepped_to m c (head_of rest)))
+    (h ∙ rw (map_image-tested i image, s.belonging) (step_in_lem m c) ∙ ap (λ (o : Option Entry). said_stepped (Ok (stepped_to m c o))) next)
 
 -- the key of a cursor, in a buffer that holds it
 key-put : (i : Image) → MapImage i → (c : Cursor) → belongs (image_map i) c ≡ true → (k : Key) → key_of (image_map i) c ≡ Some k → (out : List ℕ) → length k ≤ length out
@@ -171,7 +175,7 @@ module _ (i : Image) (image : MapImage i) (out₀ : List ℕ) where
   abbrev m : Map
   m = image_map i
 
-  pub listing-starts : (c : Cursor) → said_started (At c) ≡ start_says kinds.Predictive i [] → Listed i out₀ c 0 out₀
+  pub listing-starts : (c : Cursor) → said_started (Ok c) ≡ start_says kinds.Predictive i [] → Listed i out₀ c 0 out₀
   listing-starts c h = record { s = []; rest = m; stands = start-rest i image c h; put = put-start out₀; whole = refl }
 
   module _ (c : Cursor) (at : ℕ) (out : List ℕ) (l : Listed i out₀ c at out) where
@@ -182,25 +186,25 @@ module _ (i : Image) (image : MapImage i) (out₀ : List ℕ) where
         let long : length l.s + length (map_text l.rest) ≡ length (map_text m) = sym (length-append l.s (map_text l.rest)) ∙ ap length l.whole in
         omega (arith, e, fits, long, ap length o, length_over l.s out₀ (omega (arith, fits, long)))
 
-    pub listing-ends : (r : Stepped) → said_stepped r ≡ step_says i c → ((n v : ℕ) (d : Cursor) → ¬ (r ≡ stepped.Gave n v d)) → Put (map_text m) out₀ at out
+    pub listing-ends : (r : Result Stepped Refusal) → said_stepped r ≡ step_says i c → ((n v : ℕ) (d : Cursor) → ¬ (r ≡ Ok (steps.Gave n v d))) → Put (map_text m) out₀ at out
     unfolding map_text
     listing-ends r h none-given = go l.rest refl
       where
-        is : r ≡ stepped_to m c (head_of l.rest)
+        is : r ≡ Ok (stepped_to m c (head_of l.rest))
         is = stands-step i image c l.rest l.stands r h
 
         go : (n : Map) → l.rest ≡ n → Put (map_text m) out₀ at out
         go [] e =
             let all : l.s ≡ map_text m = sym (append-nil l.s) ∙ ap (λ (n : Map). l.s ++ map_text n) (sym e) ∙ l.whole in
             subst (λ (t : List ℕ). Put t out₀ at out) all l.put
-        go (e ∷ n) q = absurd (none-given _ _ _ (is ∙ ap (λ (x : Map). stepped_to m c (head_of x)) q))
+        go (e ∷ n) q = absurd (none-given _ _ _ (is ∙ ap (λ (x : Map). Ok (stepped_to m c (head_of x))) q))
 
-    pub listing-turn : length (map_text m) ≤ length out₀ → (n v : ℕ) (next : Cursor) → said_stepped (stepped.Gave n v next) ≡ step_says i c → Turn i out₀ c at out v next
+    pub listing-turn : length (map_text m) ≤ length out₀ → (n v : ℕ) (next : Cursor) → said_stepped (Ok (steps.Gave n v next)) ≡ step_says i c → Turn i out₀ c at out v next
     unfolding map_text
     listing-turn fits n v next h = go l.rest refl
       where
-        is : stepped.Gave n v next ≡ stepped_to m c (head_of l.rest)
-        is = stands-step i image c l.rest l.stands (stepped.Gave n v next) h
+        is : ◌≡◌ {A = Result Stepped Refusal} (Ok (steps.Gave n v next)) (Ok (stepped_to m c (head_of l.rest)))
+        is = stands-step i image c l.rest l.stands (Ok (steps.Gave n v next)) h
 
         turn : (e : Entry) (rest : Map) → l.rest ≡ e ∷ rest → v ≡ e.1 → (d : Cursor) → cursor_after m c e ≡ d → Turn i out₀ c at out v d
         turn e rest q value d to =
@@ -252,10 +256,10 @@ module _ (i : Image) (image : MapImage i) (out₀ : List ℕ) where
 
         go : (rest : Map) → l.rest ≡ rest → Turn i out₀ c at out v next
         go [] q =
-            let none-given : stepped.Gave n v next ≡ stepped.End (end_of c) = is ∙ ap (λ (x : Map). stepped_to m c (head_of x)) q in
+            let none-given : ◌≡◌ {A = Result Stepped Refusal} (Ok (steps.Gave n v next)) (Ok (steps.End (end_of c))) = is ∙ ap (λ (x : Map). Ok (stepped_to m c (head_of x))) q in
             let z : ◌≡◌ {A = ℕ} 0 1 = cc in absurd (omega arith)
         go (e ∷ rest) q =
-            let gave : stepped.Gave n v next ≡ stepped.Gave (node_of m e.0) e.1 (cursor_after m c e) = is ∙ ap (λ (x : Map). stepped_to m c (head_of x)) q in
+            let gave : ◌≡◌ {A = Result Stepped Refusal} (Ok (steps.Gave n v next)) (Ok (steps.Gave (node_of m e.0) e.1 (cursor_after m c e))) = is ∙ ap (λ (x : Map). Ok (stepped_to m c (head_of x))) q in
             let value : v ≡ e.1 = cc in
             let to-next : cursor_after m c e ≡ next = cc in
             turn e rest q value next to-next

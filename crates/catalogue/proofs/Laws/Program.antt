@@ -11,8 +11,8 @@ use Prim.Native.Nat.{ℕ, suc, ◌+◌, ◌≤◌, ◌<◌, Ordering}
 use native.Mathlib.Omega.{arith}
 use mathlib.Core.Bool.{Bool, true, false, cond}
 use mathlib.Core.List.{List, [], ◌∷◌, ◌++◌}
-use Rattle.std.specs.Prelude.{Option, None, Some}
-use lib.ListN.{length, take, drop, length-append, length-take}
+use Rattle.std.specs.Prelude.{Option, None, Some, Result}
+use lib.ListN.{length, take, length-append, length-take}
 use lib.Dec.{eqb}
 use borrow.Author.Tests.{lt-ltb, le-ltb, ne_eqb}
 use Rattle.keymap.specs.Key.{Key, Bytes, compare_keys}
@@ -27,21 +27,22 @@ use Rattle.lines.specs.TabLine.{tab_entry}
 use Rattle.lines.specs.Text.{in_first, lines_of, entry_lines}
 use Rattle.lines.specs.Writing.{tab_text, map_text}
 use Rattle.lines.proofs.Laws.Writing.{tab_entry-text}
-use Rattle.catalogue.specs.declared.filling.Filled.{Filled}
+use Rattle.catalogue.specs.declared.filling.Refused.{Refused}
 use Rattle.catalogue.specs.declared.reading.Reading.{Reading}
+use Rattle.catalogue.specs.declared.reading.Stage.{Stage}
 use Rattle.catalogue.specs.Limits.{file_limit, program_capacity}
 use Rattle.catalogue.specs.TextAnswers.{text_from, text_says, entries_in, text_map}
 use Rattle.catalogue.specs.Filling.{said_filled, fill_from, left_from, fill_pool, HeldIf}
 use Rattle.catalogue.specs.Program.{no_file_text, too_long_text, refused_text, program_text}
-use Rattle.catalogue.specs.Reading.{what_read}
+use Rattle.catalogue.specs.Reading.{by_stage, what_read}
 use Rattle.catalogue.specs.Rooms.{program_pool, built_pool, RoomsLeft}
 use Rattle.catalogue.proofs.Laws.Filling.{filled-holds}
 use Rattle.catalogue.proofs.Laws.TextAnswers.{Told, cause-number, text-told, text-long, text-short, reset-text}
 
 -- ---- a pool of the program's length
 
-pub fills : (p q : Pool) → length p ≡ 10245 → q ≡ reset_pool p → (text : List ℕ) → Bytes text → (r : Filled) (left : Pool)
-    → said_filled r ≡ fill_from 1 q (lines_of (drop 0 text)) → left ≡ left_from q (lines_of (drop 0 text))
+pub fills : (p q : Pool) → length p ≡ 10245 → q ≡ reset_pool p → (text : List ℕ) → Bytes text → (r : Result (Unit {0}) Refused) (left : Pool)
+    → said_filled r ≡ fill_from 1 q (lines_of text) → left ≡ left_from q (lines_of text)
     → (said_filled r ≡ text_from program_capacity 1 [] (entry_lines text)) × ((left ≡ fill_pool p text) × HeldIf r left text)
 unfolding fill_pool entry_lines
 fills p q size e text b r left said is =
@@ -127,15 +128,20 @@ module _ (w : Option (List ℕ)) (p ls vs ws qs out₀ : List ℕ) where
       → RoomsLeft w p ls vs ws qs out₀ r out q ls₁ vs₁ ws₁ qs₁
   built t q text pool same r out ls₁ vs₁ ws₁ qs₁ e o left = rw (text, pool, same) (e, (o, (refl, left)))
 
+unread : (s : Stage) (text : List ℕ) → ¬ (s ≡ Stage.Whole) → by_stage s None (Some text) None ≡ None
+unread Stage.Open text n = refl
+unread Stage.Whole text n = absurd (n refl)
+unread Stage.Failed text n = refl
+
 module _ (rd : Reading) (room p ls vs ws qs out₀ : List ℕ) where
   abbrev what : Option (List ℕ)
   what = what_read rd room
 
-  pub unread-written : rd.whole ≡ false → (r : ℕ) (out : List ℕ) → r ≡ length no_file_text → out ≡ over no_file_text out₀ → RoomsLeft what p ls vs ws qs out₀ r out p ls vs ws qs
+  pub unread-written : ¬ (rd.stage ≡ Stage.Whole) → (r : ℕ) (out : List ℕ) → r ≡ length no_file_text → out ≡ over no_file_text out₀ → RoomsLeft what p ls vs ws qs out₀ r out p ls vs ws qs
   unfolding program_text program_pool built_pool
-  unread-written f r out e o = unbuilt what p ls vs ws qs out₀ no_file_text p (rw f) (rw f) (rw f) r out e o
+  unread-written f r out e o = let k = unread rd.stage (take rd.done room) f in unbuilt what p ls vs ws qs out₀ no_file_text p (rw k) (rw k) (rw k) r out e o
 
-  pub long-written : rd.whole ≡ true → file_limit < rd.done → file_limit < length room → (r : ℕ) (out : List ℕ) → r ≡ length too_long_text → out ≡ over too_long_text out₀
+  pub long-written : rd.stage ≡ Stage.Whole → file_limit < rd.done → file_limit < length room → (r : ℕ) (out : List ℕ) → r ≡ length too_long_text → out ≡ over too_long_text out₀
       → RoomsLeft what p ls vs ws qs out₀ r out p ls vs ws qs
   unfolding program_text program_pool built_pool
   long-written f h l r out e o =
@@ -144,7 +150,7 @@ module _ (rd : Reading) (room p ls vs ws qs out₀ : List ℕ) where
       let says : text_says program_capacity text ≡ [] = text-long program_capacity text long in
       unbuilt what p ls vs ws qs out₀ too_long_text p (rw (f, says)) (rw (f, lt-ltb file_limit (length text) long)) (rw (f, says)) r out e o
 
-  module _ (f : rd.whole ≡ true) (h : rd.done ≤ file_limit) where
+  module _ (f : rd.stage ≡ Stage.Whole) (h : rd.done ≤ file_limit) where
     abbrev text : List ℕ
     text = take rd.done room
 

@@ -10,21 +10,18 @@
 --     put-value            what stands behind the key in the text of an entry
 -- Assumes nothing.
 use mathlib.Core.Path.{◌≡◌, refl, sym, ap, subst, ◌∙◌}
-use Prim.Native.Nat.{ℕ, zero, suc, ◌+◌, ◌*◌, ◌/◌, ◌%◌, ◌^◌, ◌≤◌, ◌<◌}
-use native.Mathlib.Nat.{pow-suc, one-le-pow}
-use native.Mathlib.Numerals.{add-one}
+use Prim.Native.Nat.{ℕ, zero, suc, ◌+◌, ◌/◌, ◌%◌, ◌^◌, ◌≤◌, ◌<◌}
 use native.Mathlib.Omega.{arith}
 use mathlib.Core.List.{List, [], ◌∷◌, ◌++◌, append_assoc}
-use lib.ListN.{length, get_or, take, drop, set, length-append, take-append-drop}
-use lib.Seq.{take-suc, length-take-le, drop-drop}
+use lib.ListN.{length, take, drop, length-append, take-append-drop}
+use lib.Seq.{length-take-le, drop-drop}
 use borrow.Author.Tests.{lt-ltb}
 use Rattle.io.specs.Digits.{hex_digit_ascii, last_digits, IsDigitCount}
 use Rattle.keymap.specs.Buffers.{over}
-use Rattle.keymap.proofs.Laws.Buffers.{over_none, over-set, over-behind, take-over}
-use Rattle.lines.specs.Bytes.{tab, line_feed}
+use Rattle.keymap.proofs.Laws.Buffers.{over_none, over-behind, take-over}
+use Rattle.lines.specs.Bytes.{line_feed}
 use Rattle.lines.specs.Decimal.{zero_digit, decimal}
-use Rattle.lines.specs.Writing.{tab_line, tab_text}
-use Rattle.lines.proofs.Laws.Decimal.{decimal-small, length-decimal, length-decimal-large, final_digits, final_digits-all}
+use Rattle.lines.proofs.Laws.Decimal.{length-decimal, length-decimal-is, final_digits, final_digits-all}
 use Rattle.catalogue.specs.Program.{refused_word, line_word, refused_text}
 
 -- ---- at a place
@@ -36,20 +33,6 @@ over-at at xs ys h =
     append_assoc (take at ys) xs (drop (length (take at ys ++ xs)) ys)
     ∙ ap (λ (zs : List ℕ). take at ys ++ (xs ++ zs)) (ap (λ (k : ℕ). drop k ys) front ∙ sym (drop-drop (length xs) at ys))
 
--- nothing is put yet
-pub put-none : (at : ℕ) (ys : List ℕ) → at ≤ length ys → ys ≡ over (take at ys ++ []) ys
-put-none at ys h = sym (over-at at [] ys h ∙ ap (λ (zs : List ℕ). take at ys ++ zs) (over_none (drop at ys)) ∙ take-append-drop at ys)
-
-pub put-turn : (text out₀ out : List ℕ) (at i : ℕ) → i < length text → at + length text ≤ length out₀ → out ≡ over (take at out₀ ++ take i text) out₀
-    → set out (at + i) (get_or text i 0) ≡ over (take at out₀ ++ take (i + 1) text) out₀
-put-turn text out₀ out at i h l e =
-    let front : length (take at out₀ ++ take i text) ≡ at + i =
-    length-append (take at out₀) (take i text) ∙ omega (arith, length-take-le at out₀ (omega arith), length-take-le i text (omega arith)) in
-    let more : take i text ++ (get_or text i 0 ∷ []) ≡ take (i + 1) text = sym (take-suc text i 0 h) ∙ ap (λ (k : ℕ). take k text) (sym (add-one i)) in
-    ap (λ (o : List ℕ). set o (at + i) (get_or text i 0)) e
-    ∙ over-set (take at out₀ ++ take i text) out₀ (at + i) (get_or text i 0) (sym front) (omega arith)
-    ∙ ap (λ (zs : List ℕ). over zs out₀) (append_assoc (take at out₀) (take i text) (get_or text i 0 ∷ []) ∙ ap (λ (zs : List ℕ). take at out₀ ++ zs) more)
-
 -- ---- digits
 
 digits_last : (k n : ℕ) → last_digits 10 k n ≡ final_digits k n
@@ -60,18 +43,10 @@ digits_last (suc k) n =
     let tenth = digits_last k (n / 10) in
     λ i. tenth i ++ (glyph-ten i ∷ [])
 
-fewest-length : (k n : ℕ) → n < 10 ^ suc k → (1 ≤ k → 10 ^ k ≤ n) → length (decimal n) ≡ suc k
-fewest-length zero n below least = rw (decimal-small n (omega (arith, pow-suc 10 0))) refl
-fewest-length (suc k) n below least =
-    let whole : 10 * 10 ^ k ≤ n = omega (arith, pow-suc 10 k, least (omega arith)) in
-    let long : 10 ≤ n = omega (arith, one-le-pow k 10 (omega arith)) in
-    length-decimal-large n long
-    ∙ ap (λ (j : ℕ). suc j) (fewest-length k (n / 10) (omega (arith, pow-suc 10 (suc k))) (λ h. omega arith))
-
 pub fewest-decimal : (k n : ℕ) → IsDigitCount 10 1 n k → last_digits 10 k n ≡ decimal n
 fewest-decimal zero n (some-digit, below, least) = absurd (omega arith)
 fewest-decimal (suc k) n (some-digit, below, least) =
-    let long : length (decimal n) ≡ suc k = fewest-length k n below (λ h. subst (λ (j : ℕ). 10 ^ j ≤ n) (omega arith) (least (omega arith))) in
+    let long : length (decimal n) ≡ suc k = length-decimal-is k n below (λ h. subst (λ (j : ℕ). 10 ^ j ≤ n) (omega arith) (least (omega arith))) in
     digits_last (suc k) n ∙ ap (λ (j : ℕ). final_digits j n) (sym long) ∙ final_digits-all n
 
 -- ---- one text behind the other
@@ -127,15 +102,3 @@ put-from at out h = (
   sym (length-take-le at out h),
   sym (ap (λ (k : ℕ). take at out ++ drop k out) (length-take-le at out h) ∙ take-append-drop at out),
 )
-
-pub put-value : (v at : ℕ) (out : List ℕ) (next : ℕ) (more : List ℕ) → at ≤ length out → Put (((take at out ++ (tab ∷ [])) ++ decimal v) ++ (line_feed ∷ [])) out next more
-    → (next ≡ at + length (tab_text ([], v))) × (more ≡ take at out ++ over (tab_text ([], v)) (drop at out))
-unfolding tab_text tab_line
-put-value v at out next more h (e, o) =
-    let front : List ℕ = take at out in
-    let same : ((front ++ (tab ∷ [])) ++ decimal v) ++ (line_feed ∷ []) ≡ front ++ ((tab ∷ decimal v) ++ (line_feed ∷ [])) =
-    append_assoc (front ++ (tab ∷ [])) (decimal v) (line_feed ∷ [])
-    ∙ append_assoc front (tab ∷ []) (decimal v ++ (line_feed ∷ [])) in (
-      e ∙ ap length same ∙ length-append front ((tab ∷ decimal v) ++ (line_feed ∷ [])) ∙ ap (λ (k : ℕ). k + length ((tab ∷ decimal v) ++ (line_feed ∷ []))) (length-take-le at out h),
-      o ∙ ap (λ (t : List ℕ). over t out) same ∙ over-at at ((tab ∷ decimal v) ++ (line_feed ∷ [])) out h,
-    )

@@ -1,9 +1,8 @@
 -- A perch that knows its one goes where the rule goes, on any bits; and a climb ends, since each parent's number is below.
 --
 --     leads-far, -zero, -before, -last  a perch, by the first test that fails; `leads-told`: what it tells
---     first_from-far, -missing, -bare, -out, -child  the first child of a perch, by the first test that fails;
---                           `zero-ahead`: its node's zero is not before its one
---     beside_from-last, -bare, -there  its next sibling
+--     first_from-far, -missing  a perch that has no first child, by the first test that fails; `zero-ahead`: its node's
+--                           zero is not before its one
 --     rise-lower            a parent's number is lower
 --     climb_from-top, -beside, -lost, -up  a climb, by where it is
 --     advance-rule          the next perch is the rule's
@@ -100,31 +99,6 @@ module _ (b : ℕ → ℕ) (len last : ℕ) (at : Perch) where
           go : Dec (at.one ≤ z) → at.one ≤ z
           go (yes l) = l
           go (no l) = absurd (omega (arith, kth-told (onward at.one (gap b)) len (at.node - (at.one + 1 - at.node)) z zero_is, onward-before (gap b) at.one z (lt_of_not-le l)))
-
-      pub first_from-bare : one_behind b len z ≡ false → first_from b len last at ≡ None
-      first_from-bare e = first-zero (Some z) zero_is ∙ rw e
-
-      module _ (one : one_behind b len z ≡ true) where
-        pub first_from-out : counts_to last at.node (z + 2 - at.node) ≡ false → first_from b len last at ≡ None
-        first_from-out e = first-zero (Some z) zero_is ∙ rw (one, e)
-
-        pub first_from-child : counts_to last at.node (z + 2 - at.node) ≡ true → first_from b len last at ≡ Some (record { node = z + 2 - at.node; one = z + 1 })
-        first_from-child e = first-zero (Some z) zero_is ∙ rw (one, e)
-
-  -- ---- its next sibling
-
-  pub beside_from-last : last ≤ at.node → beside_from b len last at ≡ None
-  unfolding beside_from
-  beside_from-last h = rw (le-ltb at.node last h)
-
-  module _ (more : at.node < last) where
-    pub beside_from-bare : one_behind b len at.one ≡ false → beside_from b len last at ≡ None
-    unfolding beside_from
-    beside_from-bare e = rw (lt-ltb at.node last more, e)
-
-    pub beside_from-there : one_behind b len at.one ≡ true → beside_from b len last at ≡ Some (record { node = at.node + 1; one = at.one + 1 })
-    unfolding beside_from
-    beside_from-there e = rw (lt-ltb at.node last more, e)
 
 -- ---- a climb from any perch
 

@@ -1,7 +1,7 @@
 -- The labels on the way up from a node, in a buffer. On an image that some map has they are the bytes of the node's path: a node but the root has its last byte
 -- for its label, and its parent the bytes before, so the labels met on the way are the bytes from the last to the first.
 --
---     has_entry-low, -upto, -told             the test of an entry
+--     has_entry-upto                          the test of an entry
 --     spelled_from-done, -lost, -bare, -next  the climb, by what is left and where it is
 --     spelled_by-short, spelled_by-room       the buffer, by its room
 --     spell-path                              on an image that some map has, the last bytes of the path
@@ -11,16 +11,14 @@
 -- Assumes nothing.
 use mathlib.Core.Path.{◌≡◌, refl, sym, ap, ap₂, subst, ◌∙◌}
 use Prim.Native.Nat.{ℕ, zero, suc, ◌+◌, ◌-◌, ◌≤◌, ◌<◌}
-use native.Mathlib.Nat.{lt_of_not-le}
-use native.Mathlib.Decide.{dec_le}
 use native.Mathlib.Omega.{arith}
-use mathlib.Core.Bool.{true, false, true≢false}
+use mathlib.Core.Bool.{true, false}
 use mathlib.Core.List.{List, [], ◌∷◌, ◌++◌, append_assoc}
 use Rattle.std.specs.Prelude.{Option, None, Some, Result, Ok, Err}
 use lib.ListN.{length, get_or, take, drop, set, take-append-drop}
 use lib.Seq.{drop-length, take-suc, drop_at, set_at, length-take-le}
 use lib.Dec.{leb}
-use borrow.Author.Tests.{le-leb, lt-leb, leb-true}
+use borrow.Author.Tests.{le-leb, lt-leb}
 use Rattle.keymap.specs.Key.{Key, PrefixOf, last_byte}
 use Rattle.keymap.specs.Map.{Map, Catalogue, lookup}
 use Rattle.keymap.specs.Label.{label_in}
@@ -46,20 +44,9 @@ use Rattle.climbs.proofs.Laws.MapClimb.{step-up, upper-path}
 -- ---- by cases
 
 module _ (n k : ℕ) where
-  pub has_entry-low : k < 2 → has_entry n k ≡ false
-  unfolding has_entry
-  has_entry-low h = rw (lt-leb 2 k h)
-
   pub has_entry-upto : 2 ≤ k → has_entry n k ≡ leb k (n + 1)
   unfolding has_entry
   has_entry-upto h = rw (le-leb 2 k h)
-
-  pub has_entry-told : has_entry n k ≡ true → (2 ≤ k) × (k ≤ n + 1)
-  has_entry-told e = go (dec_le 2 k)
-    where
-      go : Dec (2 ≤ k) → (2 ≤ k) × (k ≤ n + 1)
-      go (yes l) = (l, leb-true k (n + 1) (sym (has_entry-upto l) ∙ e))
-      go (no l) = absurd (true≢false (sym e ∙ has_entry-low (lt_of_not-le l)))
 
 module _ (ls : List ℕ) (b : ℕ → ℕ) (len : ℕ) where
   pub spelled_from-done : (at : Option ℕ) (out : List ℕ) → spelled_from ls b len 0 at out ≡ out

@@ -57,9 +57,6 @@ pub record ZeroAt (ws : List ℕ) (k p : ℕ) : Type 0 where
   pub before : zeros_before (bit ws) p ≡ k
   pub there : gap (bit ws) p ≡ 1
 
-pub nothing-passed : (ws : List ℕ) (first k : ℕ) → PassedFrom ws first k (record { words = first; left = k })
-nothing-passed ws first k = record { sum = refl; some = λ h. h }
-
 module _ (ws : List ℕ) (wide : (i : ℕ) → get_or ws i 0 < 2 ^ word_bits) where
   abbrev b : ℕ → ℕ
   b = bit ws

@@ -3,8 +3,7 @@
 --     labels_rise-is                     two labels
 --     childless_fits-root, ..            a node without child
 --     bit_fits-one, ..                   a bit, by itself and the one before
---     lengths_fit-many, -values, -words  the test of the lengths, by the first that fails; `lengths-told`,
---                                        `lengths-fit`: what it tells, and back
+--     lengths-told, lengths-fit          the test of the lengths: what it tells, and back
 --     image_test-unfit, ..               the whole, by the first test that fails
 -- Assumes nothing.
 use mathlib.Core.Path.{◌≡◌, refl, sym, ◌∙◌}
@@ -13,7 +12,7 @@ use mathlib.Core.Bool.{Bool, true, false, true≢false, ◌&&◌}
 use mathlib.Core.List.{List}
 use lib.ListN.{length, get_or}
 use lib.Dec.{eqb, ltb, leb}
-use borrow.Author.Tests.{lt-ltb, le-ltb, le-leb, lt-leb, eq-eqb, ne_eqb, leb-true, eqb-true}
+use borrow.Author.Tests.{lt-ltb, le-ltb, le-leb, eq-eqb, ne_eqb, leb-true, eqb-true}
 use Rattle.keymap.specs.Limits.{word_bits, most_records}
 use Rattle.keymap.specs.Label.{mark, label_in}
 use Rattle.keymap.specs.Bits.{words_for}
@@ -54,19 +53,6 @@ module _ (i : Image) where
   above_end = get_or i.words (bits_for (entries i) / word_bits) 0 / 2 ^ (bits_for (entries i) % word_bits)
 
   -- ---- the lengths
-
-  pub lengths_fit-many : most_records < entries i → lengths_fit i ≡ false
-  unfolding lengths_fit
-  lengths_fit-many h = rw (lt-leb (entries i) most_records h)
-
-  module _ (few : entries i ≤ most_records) where
-    pub lengths_fit-values : (length i.values ≡ entries i → ⊥) → lengths_fit i ≡ false
-    unfolding lengths_fit
-    lengths_fit-values h = rw (le-leb (entries i) most_records few, ne_eqb (length i.values) (entries i) h)
-
-    pub lengths_fit-words : length i.values ≡ entries i → lengths_fit i ≡ eqb (length i.words) (words_for (bits_for (entries i)))
-    unfolding lengths_fit
-    lengths_fit-words h = rw (le-leb (entries i) most_records few, eq-eqb (length i.values) (entries i) h)
 
   pub record LengthsFit : Type 0 where
     pub few : entries i ≤ most_records

@@ -15,7 +15,7 @@ use mathlib.Core.List.{List, [], ◌∷◌, map}
 use native.Mathlib.Omega.{arith}
 use lib.ListN.{length, get_or, take}
 use lib.Dec.{leb, ltb}
-use borrow.Author.Tests.{leb-true, le-ltb}
+use borrow.Author.Tests.{leb-true, le-ltb, lt-ltb}
 use Rattle.keymap.specs.Refusals.{refuses}
 use Rattle.keymap.specs.declared.refusals.Refusal.{Refusal}
 use Rattle.keymap.specs.Bits.{words_for}
@@ -53,6 +53,14 @@ left-written : {t : Bool} (xs ys : List ℕ) → t ≡ true → xs ≡ cond t xs
 left-written xs ys e = ap (λ (b : Bool). cond b xs ys) (sym e)
 
 module _ (p : Pool) (ls vs ws qs : List ℕ) where
+  pub says-small : length p < record_words → refuses Refusal.PoolTooSmall ≡ build_says p ls vs ws qs
+  unfolding build_says
+  says-small h = simp (lt-ltb _ _ h)
+
+  pub says-unsound : record_words ≤ length p → sound_test p ≡ false → refuses Refusal.NotAPool ≡ build_says p ls vs ws qs
+  unfolding build_says
+  says-unsound h e = simp (le-ltb _ _ h, e)
+
   pub says-refused : (r : Refusal) → check_sound p ≡ Err r → refuses r ≡ build_says p ls vs ws qs
   unfolding check_sound build_says
   says-refused r e = go (ltb (length p) record_words) (sound_test p) e

@@ -1,52 +1,36 @@
--- Laws of the answers' numbers. What was said can be heard again, so two answers that say the same are the same.
+-- Laws of the answers' numbers: two answers that say the same are the same.
 --
 --     said-parsed-one, said-cut-one, said-written-one  equal numbers mean equal answers
 -- Assumes nothing.
 use Prim.Native.Nat.{ℕ}
-use mathlib.Core.Path.{◌≡◌, refl, sym, ◌∙◌, ap}
-use mathlib.Core.List.{List, [], ◌∷◌}
-use Rattle.lines.specs.declared.answers.Parsed.{Parsed}
-use Rattle.lines.specs.declared.answers.Cut.{Cut}
-use Rattle.lines.specs.declared.answers.Written.{Written}
+use mathlib.Core.Path.{◌≡◌, refl, ap}
+use Rattle.std.specs.Prelude.{Option, None, Some, Result, Ok, Err}
+use Rattle.keymap.specs.declared.refusals.Refusal.{Refusal}
+use Rattle.keymap.proofs.Laws.Refusals.{refusal-one}
+use Rattle.lines.specs.declared.answers.Entry.{Entry}
+use Rattle.lines.specs.declared.answers.Line.{Line}
 use Rattle.lines.specs.Answers.{said_parsed, said_cut, said_written}
 
-heard_parsed : List ℕ → Parsed
-heard_parsed [] = Parsed.BadLine
-heard_parsed (a ∷ []) = Parsed.BadLine
-heard_parsed (a ∷ l ∷ []) = Parsed.BadLine
-heard_parsed (a ∷ l ∷ v ∷ ns) = Parsed.Entry l v
+pub said-parsed-one : (r s : Result Entry Refusal) → said_parsed r ≡ said_parsed s → r ≡ s
+said-parsed-one (Ok e) (Ok d) q =
+    let key : e.key_len ≡ d.key_len = cc in
+    let number : e.number ≡ d.number = cc in
+    λ i. Ok (record { key_len = key i; number = number i })
+said-parsed-one (Ok e) (Err r) q = cc
+said-parsed-one (Err r) (Ok e) q = cc
+said-parsed-one (Err r) (Err s) q = ap Err (refusal-one r s cc)
 
-heard_cut : List ℕ → Cut
-heard_cut [] = Cut.NoLine
-heard_cut (a ∷ []) = Cut.NoLine
-heard_cut (a ∷ e ∷ []) = Cut.NoLine
-heard_cut (a ∷ e ∷ n ∷ ns) = Cut.Line e n
+pub said-cut-one : (r s : Option Line) → said_cut r ≡ said_cut s → r ≡ s
+said-cut-one (Some l) (Some k) q =
+    let end : l.end ≡ k.end = cc in
+    let next : l.next ≡ k.next = cc in
+    λ i. Some (record { end = end i; next = next i })
+said-cut-one (Some l) None q = cc
+said-cut-one None (Some l) q = cc
+said-cut-one None None q = refl
 
-heard_written : List ℕ → Written
-heard_written [] = Written.KeyRoom
-heard_written (a ∷ []) = Written.KeyRoom
-heard_written (a ∷ n ∷ ns) = Written.Length n
-
-parsed-heard : (r : Parsed) → heard_parsed (said_parsed r) ≡ r
-unfolding heard_parsed
-parsed-heard (Parsed.Entry l v) = refl
-parsed-heard Parsed.BadLine = refl
-
-cut-heard : (r : Cut) → heard_cut (said_cut r) ≡ r
-unfolding heard_cut
-cut-heard (Cut.Line e n) = refl
-cut-heard Cut.NoLine = refl
-
-written-heard : (r : Written) → heard_written (said_written r) ≡ r
-unfolding heard_written
-written-heard (Written.Length n) = refl
-written-heard Written.KeyRoom = refl
-
-pub said-parsed-one : (r s : Parsed) → said_parsed r ≡ said_parsed s → r ≡ s
-said-parsed-one r s e = sym (parsed-heard r) ∙ ap heard_parsed e ∙ parsed-heard s
-
-pub said-cut-one : (r s : Cut) → said_cut r ≡ said_cut s → r ≡ s
-said-cut-one r s e = sym (cut-heard r) ∙ ap heard_cut e ∙ cut-heard s
-
-pub said-written-one : (r s : Written) → said_written r ≡ said_written s → r ≡ s
-said-written-one r s e = sym (written-heard r) ∙ ap heard_written e ∙ written-heard s
+pub said-written-one : (r s : Result ℕ Refusal) → said_written r ≡ said_written s → r ≡ s
+said-written-one (Ok n) (Ok m) q = ap Ok cc
+said-written-one (Ok n) (Err r) q = cc
+said-written-one (Err r) (Ok n) q = cc
+said-written-one (Err r) (Err s) q = ap Err (refusal-one r s cc)

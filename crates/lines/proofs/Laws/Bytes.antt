@@ -1,45 +1,29 @@
 -- Laws of the first of a byte in a text: the stretch before it has none of them, and a text that has none is one stretch.
 --
---     stretch-here          at b itself the stretch ends, and `stretch-other` another byte is part of it
---     stretch-at            the same of what stands from a place on, and `stretch-past`, `stretch-end`
 --     stretch-within        it is no longer than the text
 --     stretch-split         a text with a b is the stretch, b and the rest
 --     stretch-append        the stretch of a text without b, put before a b, is that text
 --     holds-stretch         the stretch has no b
 --     holds-take            a leading part has a b exactly if it is longer than the stretch, and `holds-whole` the
 --                           whole text
+--     position-Some         the place at which b is found ends the stretch, and `position-None`: the stretch is the
+--                           whole text where it is found nowhere; `is_some-position`: it is found where the text has it
 -- Assumes nothing.
 use mathlib.Core.Path.{◌≡◌, refl, sym, ap, ◌∙◌}
-use Prim.Native.Nat.{ℕ, zero, suc, ◌+◌, ◌≤◌, ◌<◌}
-use mathlib.Core.Bool.{Bool, true, false, ◌||◌, or_assoc}
+use Prim.Native.Nat.{ℕ, zero, suc, ◌≤◌, ◌<◌}
+use mathlib.Core.Bool.{Bool, true, false, cond, ◌||◌, or_assoc}
+use Rattle.std.specs.Prelude.{Some, None, is_some, position}
+use Rattle.std.specs.List.{position_or_len}
+use Rattle.std.proofs.lemmas.List.Recursion.{is_position_or_len}
 use mathlib.Core.List.{List, [], ◌∷◌, ◌++◌}
 use native.Mathlib.Omega.{arith}
-use native.Mathlib.Numerals.{add-one}
-use lib.ListN.{length, take, drop, get_or, drop_of_length-le}
-use lib.Seq.{drop-cons, split_at, take-length}
+use lib.ListN.{length, take, drop, get_or}
+use lib.Seq.{split_at, take-length}
 use lib.Dec.{eqb, ltb}
-use borrow.Author.Tests.{eqb-true, eq-eqb, ne_eqb, lt-ltb, le-ltb, ltb-true, ltb-false}
+use borrow.Author.Tests.{eqb-true, eq-eqb, lt-ltb, le-ltb, ltb-true, ltb-false}
 use Rattle.lines.specs.Bytes.{holds, stretch}
 
 module _ (b : ℕ) where
-  pub stretch-here : (a : ℕ) (t : List ℕ) → a ≡ b → stretch b (a ∷ t) ≡ zero
-  unfolding stretch
-  stretch-here a t e = rw (eq-eqb a b e)
-
-  pub stretch-other : (a : ℕ) (t : List ℕ) → ¬ (a ≡ b) → stretch b (a ∷ t) ≡ suc (stretch b t)
-  unfolding stretch
-  stretch-other a t e = rw (ne_eqb a b e)
-
-  pub stretch-at : (t : List ℕ) (i : ℕ) → i < length t → get_or t i 0 ≡ b → stretch b (drop i t) ≡ zero
-  stretch-at t i h e = rw (drop-cons t i 0 h) (stretch-here (get_or t i 0) (drop (suc i) t) e)
-
-  pub stretch-past : (t : List ℕ) (i : ℕ) → i < length t → ¬ (get_or t i 0 ≡ b) → stretch b (drop i t) ≡ suc (stretch b (drop (i + 1) t))
-  stretch-past t i h e = rw (add-one, drop-cons t i 0 h) (stretch-other (get_or t i 0) (drop (suc i) t) e)
-
-  pub stretch-end : (t : List ℕ) (i : ℕ) → length t ≤ i → stretch b (drop i t) ≡ zero
-  unfolding stretch
-  stretch-end t i h = rw (drop_of_length-le t h)
-
   pub stretch-within : (t : List ℕ) → stretch b t ≤ length t
   unfolding stretch
   stretch-within [] = omega arith
@@ -98,3 +82,33 @@ module _ (b : ℕ) where
       go : (c : Bool) → eqb a b ≡ c → (holds b s ≡ false → stretch b (s ++ (b ∷ t)) ≡ length s) → stretch b ((a ∷ s) ++ (b ∷ t)) ≡ length (a ∷ s)
       go true e ih = absurd (let k : true ≡ false = rw e at h in let z : ◌≡◌ {A = ℕ} 0 1 = cc in omega arith)
       go false e ih = rw e (ap suc (ih (rw e at h)))
+
+  -- ---- by the word of std
+
+  stretch-position : (t : List ℕ) → stretch b t ≡ position_or_len (λ (a : ℕ). eqb a b) t
+  unfolding stretch
+  stretch-position = is_position_or_len (stretch b) (λ (a : ℕ). eqb a b) refl (λ a t. ap (cond (eqb a b) 0) (omega arith))
+
+  pub position-Some : (t : List ℕ) (i : ℕ) → position (λ (a : ℕ). eqb a b) t ≡ Some i → (i ≡ stretch b t) × (i < length t)
+  position-Some t i h = go (ltb (position_or_len (λ (a : ℕ). eqb a b) t) (length t)) refl
+    where
+      go : (s : Bool) → ltb (position_or_len (λ (a : ℕ). eqb a b) t) (length t) ≡ s → (i ≡ stretch b t) × (i < length t)
+      go true e =
+          let at : Some (position_or_len (λ (a : ℕ). eqb a b) t) ≡ Some i = rw e at h in
+          let same : position_or_len (λ (a : ℕ). eqb a b) t ≡ i = cc in
+          (sym same ∙ sym (stretch-position t), omega (arith, same, ltb-true _ _ e))
+      go false e = let k : None ≡ Some i = rw e at h in cc
+
+  pub position-None : (t : List ℕ) → position (λ (a : ℕ). eqb a b) t ≡ None → length t ≤ stretch b t
+  position-None t h = go (ltb (position_or_len (λ (a : ℕ). eqb a b) t) (length t)) refl
+    where
+      go : (s : Bool) → ltb (position_or_len (λ (a : ℕ). eqb a b) t) (length t) ≡ s → length t ≤ stretch b t
+      go true e = let k : Some (position_or_len (λ (a : ℕ). eqb a b) t) ≡ None = rw e at h in cc
+      go false e = rw (stretch-position t) (ltb-false _ _ e)
+
+  pub is_some-position : (t : List ℕ) → is_some (position (λ (a : ℕ). eqb a b) t) ≡ holds b t
+  is_some-position t = found (ltb (position_or_len (λ (a : ℕ). eqb a b) t) (length t)) ∙ ap (λ (n : ℕ). ltb n (length t)) (sym (stretch-position t)) ∙ sym (holds-whole t)
+    where
+      found : (s : Bool) → is_some (cond s (Some (position_or_len (λ (a : ℕ). eqb a b) t)) None) ≡ s
+      found true = refl
+      found false = refl

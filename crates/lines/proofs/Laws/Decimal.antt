@@ -3,8 +3,8 @@
 --
 --     decimal-small          below ten a number is one digit, and `decimal-large` from ten on the digits of its tenth
 --                            and the last one
---     length-decimal         below 10 ^ k it has k digits at most; a value `length-decimal-some` one and
---                            `length-decimal-most` ten
+--     length-decimal         below 10 ^ k it has k digits at most, and `length-decimal-is` k from 10 ^ (k - 1) on; a
+--                            value `length-decimal-some` one and `length-decimal-most` ten
 --     are_digits-decimal     they are digits, and `value_after-decimal` stand for the number, and
 --                            `leading_zero-decimal` have no leading zero
 --     decimal-value_after    digits behind those of a number but 0 are those of what they stand for together
@@ -19,7 +19,7 @@ use Prim.Native.Nat.{ℕ, zero, suc, ◌+◌, ◌*◌, ◌-◌, ◌/◌, ◌%◌
 use mathlib.Core.Bool.{Bool, true, false, not, ◌&&◌, and-false, true≢false}
 use mathlib.Core.List.{List, [], ◌∷◌, ◌++◌, append_assoc, append-nil}
 use Rattle.std.specs.Prelude.{None, Some}
-use native.Mathlib.Nat.{pow-suc}
+use native.Mathlib.Nat.{pow-suc, one-le-pow}
 use native.Mathlib.Omega.{arith}
 use native.Mathlib.Numerals.{add-one}
 use lib.ListN.{length, get_or, drop, length-append, get_or-append}
@@ -85,6 +85,15 @@ length-decimal (suc k) n h = go (ltb n 10) refl (length-decimal k (n / 10))
     go false e ih =
         let tenth : length (decimal (n / 10)) ≤ suc k = ih (omega (arith, pow-suc 10 (suc k))) in
         rw (length-decimal-large n (ltb-false n 10 e)) (omega arith)
+
+-- and k digits from 10 ^ (k - 1) on
+pub length-decimal-is : (k n : ℕ) → n < 10 ^ suc k → (1 ≤ k → 10 ^ k ≤ n) → length (decimal n) ≡ suc k
+length-decimal-is zero n below least = rw (decimal-small n (omega (arith, pow-suc 10 0))) refl
+length-decimal-is (suc k) n below least =
+    let whole : 10 * 10 ^ k ≤ n = omega (arith, pow-suc 10 k, least (omega arith)) in
+    let long : 10 ≤ n = omega (arith, one-le-pow k 10 (omega arith)) in
+    length-decimal-large n long
+    ∙ ap (λ (j : ℕ). suc j) (length-decimal-is k (n / 10) (omega (arith, pow-suc 10 (suc k))) (λ h. omega arith))
 
 pub length-decimal-most : (n : ℕ) → n < value_limit → length (decimal n) ≤ most_digits
 length-decimal-most n h = length-decimal 9 n (omega arith)

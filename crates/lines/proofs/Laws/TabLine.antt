@@ -1,4 +1,4 @@
--- Laws of a line's entry: where the first TAB and the first LF stand decides, and then the number.
+-- Laws of a line's entry: where the first TAB stands and whether an LF stands before it decides, and then the number.
 --
 --     tab_entry-no-tab       a line without TAB has none, and `tab_entry-lf` one with an LF before it
 --     tab_entry-number       of any other line the number decides, and `tab_entry-parts` says the same by what the
@@ -18,7 +18,6 @@ use native.Mathlib.Omega.{arith}
 use native.Mathlib.Numerals.{add-one}
 use lib.ListN.{length, take}
 use lib.Seq.{length-take-le, take-append_seam, drop-append-add}
-use lib.Dec.{ltb}
 use borrow.Author.Tests.{lt-ltb, le-ltb, ltb-true, not-true}
 use Rattle.keymap.specs.Map.{Entry}
 use Rattle.keymap.specs.Refusals.{refuses}
@@ -27,27 +26,23 @@ use Rattle.keymap.proofs.Laws.Begins.{both_true}
 use Rattle.lines.specs.Bytes.{tab, line_feed, holds, stretch}
 use Rattle.lines.specs.Decimal.{number_in}
 use Rattle.lines.specs.TabLine.{key_part, number_part, with_number, tab_entry, entry_says, entry_key, tab_line_says, tab_line_key}
-use Rattle.lines.proofs.Laws.Bytes.{stretch-within, stretch-split, stretch-append, holds-take, holds-whole, holds-append}
+use Rattle.lines.proofs.Laws.Bytes.{stretch-within, stretch-split, stretch-append, holds-whole, holds-append}
 
 pub tab_entry-no-tab : (line : List ℕ) → length line ≤ stretch tab line → tab_entry line ≡ None
 unfolding tab_entry
 tab_entry-no-tab line h = rw (holds-whole tab line, le-ltb (stretch tab line) (length line) h)
 
-key_part-lf : (line : List ℕ) → holds line_feed (key_part line) ≡ ltb (stretch line_feed line) (stretch tab line)
-unfolding key_part
-key_part-lf line = holds-take line_feed line (stretch tab line) (stretch-within tab line)
-
-pub tab_entry-lf : (line : List ℕ) → stretch line_feed line < stretch tab line → tab_entry line ≡ None
+pub tab_entry-lf : (line : List ℕ) → holds line_feed (key_part line) ≡ true → tab_entry line ≡ None
 unfolding tab_entry
-tab_entry-lf line h = simp (key_part-lf line, lt-ltb _ _ h, and-false)
+tab_entry-lf line h = simp (h, and-false)
 
 pub tab_entry-parts : (line : List ℕ) → holds tab line ≡ true → holds line_feed (key_part line) ≡ false → tab_entry line ≡ with_number (key_part line) (number_in (number_part line))
 unfolding tab_entry
 tab_entry-parts line h l = rw (h, l)
 
-pub tab_entry-number : (line : List ℕ) → stretch tab line < length line → stretch tab line ≤ stretch line_feed line
+pub tab_entry-number : (line : List ℕ) → stretch tab line < length line → holds line_feed (key_part line) ≡ false
     → tab_entry line ≡ with_number (key_part line) (number_in (number_part line))
-tab_entry-number line h l = tab_entry-parts line (holds-whole tab line ∙ lt-ltb _ _ h) (key_part-lf line ∙ le-ltb _ _ l)
+tab_entry-number line h l = tab_entry-parts line (holds-whole tab line ∙ lt-ltb _ _ h) l
 
 pub line-parts : (line : List ℕ) → stretch tab line < length line → line ≡ key_part line ++ (tab ∷ number_part line)
 unfolding key_part number_part
@@ -106,13 +101,13 @@ pub tab_line_says-some : (line : List ℕ) (e : Entry) → tab_entry line ≡ So
 unfolding tab_line_says
 tab_line_says-some line e h = rw h
 
-pub tab_line_key-none : (line : List ℕ) → tab_line_says line ≡ refuses Refusal.BadLine → tab_line_key line ≡ []
+pub tab_line_key-none : (line : List ℕ) (r : Refusal) → tab_line_says line ≡ refuses r → tab_line_key line ≡ []
 unfolding tab_line_says tab_line_key
-tab_line_key-none line = go (tab_entry line)
+tab_line_key-none line r = go (tab_entry line)
   where
-    go : (o : Option Entry) → entry_says o ≡ refuses Refusal.BadLine → entry_key o ≡ []
+    go : (o : Option Entry) → entry_says o ≡ refuses r → entry_key o ≡ []
     go None h = refl
-    go (Some e) h = absurd (let z : ◌≡◌ {A = ℕ} 0 1 = cc in omega arith)
+    go (Some e) h = cc
 
 pub tab_line_key-some : (line : List ℕ) (k v : ℕ) → tab_line_says line ≡ 0 ∷ k ∷ v ∷ [] → (tab_line_key line ≡ take k line) × (k ≤ length line)
 unfolding tab_line_says tab_line_key key_part

@@ -7,6 +7,7 @@
 --                             and LF
 --     lines_of-map_text       the lines of a map's text are those of its entries
 --     entries_of-map_text     and they are read as the entries
+--     put_mid-over            what is put over a part of a buffer
 -- Assumes nothing.
 use mathlib.Core.Path.{◌≡◌, refl, ap, ◌∙◌}
 use mathlib.Core.Logic.{◌↔◌}
@@ -15,7 +16,9 @@ use mathlib.Core.Bool.{false}
 use mathlib.Core.List.{List, [], ◌∷◌, ◌++◌, map, append_assoc}
 use Rattle.std.specs.Prelude.{Some}
 use native.Mathlib.Omega.{arith}
-use lib.ListN.{length, length-append}
+use lib.ListN.{length, take, drop, length-append}
+use borrow.Rule.Slice.PartMut.{put_mid}
+use Rattle.keymap.specs.Buffers.{over}
 use Rattle.keymap.specs.Map.{Entry}
 use Rattle.lines.specs.Bytes.{tab, line_feed, holds}
 use Rattle.lines.specs.Decimal.{decimal}
@@ -79,3 +82,8 @@ entries_of-map_text m p = rw (lines_of-map_text m p) (each m p)
     each : (m : List Entry) → AllPlain m → map tab_entry (map tab_line m) ≡ map (λ (e : Entry). Some e) m
     each [] p = refl
     each (e ∷ m) p = rw (tab_entry-tab_line e p.0, each m p.1)
+
+-- a part of a buffer that something is put over, of its length
+pub put_mid-over : (at n : ℕ) (out part t : List ℕ) → part ≡ t → n ≡ length t → put_mid at n out part ≡ take at out ++ over t (drop at out)
+unfolding over
+put_mid-over at n out part t p q = rw (p, q)

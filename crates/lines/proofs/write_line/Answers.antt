@@ -41,11 +41,6 @@ returns-then-out-length c =
     let both = short _ _ _ c.digit_count-digits.ensures _ (omega arith) in
     record { answer = both.0; left = both.1 }
 
-pub put_line-requires : goal.put_line-requires
-put_line-requires c =
-    let a = c.args in
-    record { counted = c.digit_count-digits.ensures; room = omega (arith, c.digit_count-digits.ensures, length-tab_text (a.key.now, a.number)) }
-
 pub returns : goal.returns
 returns c =
     let a = c.args in

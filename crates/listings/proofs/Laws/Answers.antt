@@ -12,8 +12,8 @@ use Rattle.listings.specs.declared.answers.Kind.{Kind}
 use Rattle.listings.specs.declared.answers.Kind.TheVariants as kinds
 use Rattle.listings.specs.declared.answers.Cursor.{Cursor}
 use Rattle.listings.specs.declared.answers.Cursor.TheVariants as cursors
-use Rattle.listings.specs.declared.answers.Step.{Step}
-use Rattle.listings.specs.declared.answers.Step.TheVariants as steps
+use Rattle.listings.specs.declared.answers.Stepped.{Stepped}
+use Rattle.listings.specs.declared.answers.Stepped.TheVariants as steps
 use Rattle.listings.specs.Answers.{said_kind, said_cursor, said_started, told_step, said_stepped}
 
 abbrev told_kind : ℕ → Kind
@@ -41,21 +41,21 @@ pub said_started-one : (a b : Result Cursor Refusal) → said_started a ≡ said
 said_started-one = said-one said_cursor said_cursor-one
 
 -- which step it is, its length tells
-abbrev told_back : List ℕ → Step
+abbrev told_back : List ℕ → Stepped
 told_back (n ∷ b ∷ []) = steps.End (told_cursor (b ∷ []))
 told_back (n ∷ v ∷ b ∷ []) = steps.Gave n v (told_cursor (b ∷ []))
 told_back (n ∷ b ∷ c ∷ d ∷ []) = steps.End (told_cursor (b ∷ c ∷ d ∷ []))
 told_back (n ∷ v ∷ ns) = steps.Gave n v (told_cursor ns)
 told_back ns = steps.End (told_cursor ns)
 
-told_back-step : (s : Step) → told_back (told_step s) ≡ s
+told_back-step : (s : Stepped) → told_back (told_step s) ≡ s
 told_back-step (steps.Gave n v (cursors.Open k top last)) = ap (steps.Gave n v) (told_cursor-said (cursors.Open k top last))
 told_back-step (steps.Gave n v (cursors.Finished k)) = ap (steps.Gave n v) (told_cursor-said (cursors.Finished k))
 told_back-step (steps.End (cursors.Open k top last)) = ap steps.End (told_cursor-said (cursors.Open k top last))
 told_back-step (steps.End (cursors.Finished k)) = ap steps.End (told_cursor-said (cursors.Finished k))
 
-step-one : (s t : Step) → told_step s ≡ told_step t → s ≡ t
+step-one : (s t : Stepped) → told_step s ≡ told_step t → s ≡ t
 step-one s t e = sym (told_back-step s) ∙ ap told_back e ∙ told_back-step t
 
-pub said_stepped-one : (a b : Result Step Refusal) → said_stepped a ≡ said_stepped b → a ≡ b
+pub said_stepped-one : (a b : Result Stepped Refusal) → said_stepped a ≡ said_stepped b → a ≡ b
 said_stepped-one = said-one told_step step-one

@@ -11,7 +11,7 @@
 --
 -- Assumes nothing.
 use Rattle.std.specs.Prelude.{None, Some}
-use Rattle.std.proofs.Common.{◌≡◌, ℕ, ◌+◌, ◌-◌, ◌*◌, ◌/◌, ◌%◌, ◌^◌, ◌<◌, ◌≤◌, List, length, get_or, sym, refl, ap, ◌∙◌, zero-le, le_refl, lt_of_lt_of_le, mod-lt, lt_of_not-le, arith, lit<}
+use Rattle.std.proofs.Common.{◌≡◌, ℕ, ◌+◌, ◌-◌, ◌*◌, ◌/◌, ◌%◌, ◌^◌, ◌<◌, ◌≤◌, List, length, get_or, sym, refl, ap, ◌∙◌, le_refl, lt_of_lt_of_le, mod-lt, lt_of_not-le, arith, lit<}
 use native.Mathlib.Decide.{dec_le}
 use lib.Bits.{bit_and, and_mask}
 use lib.Count.{ones}

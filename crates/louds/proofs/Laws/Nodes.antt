@@ -23,7 +23,7 @@
 use Rattle.std.specs.Prelude.{None, Option, Some, unwrap_or}
 use Rattle.std.proofs.Common.{◌≡◌, ℕ, ◌+◌, ◌-◌, ◌<◌, ◌≤◌, ◌⊎◌, ◌↔◌, sym, refl, ap, ◌∙◌, subst, ap₂, inl, inr, ⊎_elim, le_trans, le_refl, le_of_lt, eq-or-lt_of_le, lt_of_not-le, arith}
 use Rattle.keymap.proofs.Laws.Sums.{sum_below-next, sum_below-mono, sum_below-lt, sum_below-ext}
-use Rattle.std.proofs.lemmas.Option.{same_Some}
+use Rattle.std.proofs.lemmas.Option.{none-some, same_Some}
 use Rattle.louds.specs.declared.answers.Children.{Children}
 use Rattle.louds.specs.Rank.{gap, ones_before, zeros_before}
 use Rattle.louds.specs.Select.{kth, zero_at, one_at}
@@ -105,7 +105,7 @@ module _ (b : ℕ → ℕ) (small : (i : ℕ) → b i ≤ 1) (len : ℕ) where
     where
       go : (t : Option ℕ) → zero_at b len k ≡ t → (p : ℕ) × RunAt k f c p
       go (Some p) q = let r = children-at k p q in (p, record { answer = q; starts = run-first _ _ _ _ (sym e ∙ r); size = run-count _ _ _ _ (sym e ∙ r) })
-      go None q = let r = children-none b len k q in let z : ◌≡◌ {A = ℕ} 0 1 = cc in absurd (omega arith)
+      go None q = absurd (none-some _ (sym (children-none b len k q) ∙ e))
 
   pub record UpAt (m k q : ℕ) : Type 0 where
     pub answer : one_at b len m ≡ Some q
@@ -120,7 +120,7 @@ module _ (b : ℕ → ℕ) (small : (i : ℕ) → b i ≤ 1) (len : ℕ) where
           let z : k ≡ q - (m - 1) = cc in
           let s = rank-kth b small len m q h in
           (q, record { answer = h; zeros = omega (arith, z, s, ones-zeros b small q) })
-      go None h = let r = parent-none b len m h in let z : ◌≡◌ {A = ℕ} 0 1 = cc in absurd (omega arith)
+      go None h = absurd (none-some _ (sym (parent-none b len m h) ∙ e))
 
   -- ---- children and parents undo each other
 

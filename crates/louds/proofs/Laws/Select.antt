@@ -27,6 +27,7 @@
 -- Assumes nothing.
 use Rattle.std.specs.Prelude.{None, Some}
 use Rattle.std.proofs.Common.{◌≡◌, ℕ, zero, suc, ◌+◌, ◌-◌, ◌<◌, ◌≤◌, ◌⊎◌, sym, refl, ap, ◌∙◌, subst, inl, inr, ⊎_elim, zero-le, le_trans, lt_of_le_of_lt, lt-suc_self, eq-zero-or-pos, lt_of_not-le, not-le_of_lt, arith, le-leb}
+use Rattle.std.proofs.lemmas.Option.{none-some}
 use native.Mathlib.Nat.{le-suc}
 use native.Mathlib.Decide.{le_ind, dec_le}
 use borrow.Author.Tests.{lt-leb}
@@ -90,7 +91,7 @@ module _ (m : ℕ → ℕ) where
   kth-told len k p e = ⊎_elim (λ z. absurd (never (ap (kth m len) z ∙ kth-zero len))) (λ h. ⊎_elim same (λ s. absurd (never s.answer)) (kth-find len k h)) (eq-zero-or-pos k)
     where
       never : kth m len k ≡ None → ⊥
-      never q = let z : ◌≡◌ {A = ℕ} 0 1 = cc in omega arith
+      never q = none-some p (sym q ∙ e)
 
       same : (q : ℕ) × Found len k q → Found len k p
       same f =
@@ -106,7 +107,7 @@ module _ (m : ℕ → ℕ) where
   kth-missing len k h e = ⊎_elim (λ f. absurd (never f.0 f.1.answer)) (λ s. s.few) (kth-find len k h)
     where
       never : (p : ℕ) → kth m len k ≡ Some p → ⊥
-      never p q = let z : ◌≡◌ {A = ℕ} 0 1 = cc in omega arith
+      never p q = none-some p (sym e ∙ q)
 
   pub kth-exists : (len k : ℕ) → 0 < k → k ≤ sum_below m len → (p : ℕ) × Found len k p
   kth-exists len k h l = ⊎_elim (λ f. f) (λ s. absurd (not-le_of_lt s.few l)) (kth-find len k h)

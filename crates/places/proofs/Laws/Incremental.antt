@@ -10,7 +10,8 @@
 --     answer-tells          what the two tests of an answer mean
 --     query-moves, query-stays; follow-moves; goto-moves, goto-stays  the path of the place afterwards
 --     goto-key-single       from a path with a single child goto moves on, be the path a key or not
---     promise-refused, promise-strange, promise-kept  a promise by the tests that come first
+--     checked-ok, checked-err  the two tests by which refusal they answer; `no-image`: where the first fails
+--     promise-refused, promise-kept  a promise by the tests that come first
 -- Assumes nothing.
 use mathlib.Core.Path.{◌≡◌, refl, sym, ap, ◌∙◌}
 use mathlib.Core.Logic.{inr, ⊎_elim}
@@ -18,11 +19,12 @@ use Prim.Native.Nat.{ℕ, zero, suc, ◌+◌, ◌-◌, ◌≤◌, ◌<◌}
 use native.Mathlib.Omega.{arith}
 use mathlib.Core.Bool.{Bool, true, false, cond, true≢false}
 use mathlib.Core.List.{List, [], ◌∷◌, ◌++◌, append_assoc, append-nil}
-use Rattle.std.specs.Prelude.{Option, None, Some}
+use Rattle.std.specs.Prelude.{Option, None, Some, Result, Ok, Err}
 use lib.ListN.{length, take}
 use Rattle.keymap.specs.Members.{In, here}
 use Rattle.keymap.specs.Key.{Key, PrefixOf}
 use Rattle.keymap.specs.Refusals.{refuses}
+use Rattle.keymap.specs.declared.refusals.Refusal.{Refusal}
 use Rattle.keymap.specs.declared.refusals.Refusal.TheVariants.{NotAnImage, BadPlace}
 use Rattle.keymap.specs.Map.{Map, Rising, lookup}
 use Rattle.keymap.specs.Queries.{nonempty, SomeBegins, beginning, longer, is_prefix_in, LongestCommon, common_of_all}
@@ -37,7 +39,7 @@ use Rattle.keymap.specs.Answers.{given}
 use Rattle.image.specs.AcceptTest.{image_test}
 use Rattle.places.specs.declared.answers.Answer.{Answer}
 use Rattle.places.specs.declared.answers.Answer.TheVariants.{Prefix, Match, PrefixAndMatch}
-use Rattle.places.specs.Incremental.{said_answer, tells_prefix, tells_match, says_ok, says_err, place_at, on_place, from_place, path_says, query_in, query_says, query_moves, walkable, follow_in, follow_says, follow_moves, common_below, goto_in, goto_says, goto_moves, Promise}
+use Rattle.places.specs.Incremental.{said_answer, tells_prefix, tells_match, says_ok, says_err, place_at, checked_place, on_place, from_place, path_says, query_in, query_says, query_moves, walkable, follow_in, follow_says, follow_moves, common_below, goto_in, goto_says, goto_moves, Promise}
 
 -- ---- what a path is
 
@@ -174,14 +176,42 @@ lookup-longer-same m r p = lookup-longer p m r p ∙ rw (extends-own p)
 pub lookup-longer-behind : (m : Map) → Rising m → (p q : Key) → PrefixOf p q → length p < length q → lookup q (longer p m) ≡ lookup q m
 lookup-longer-behind m r p q b l = lookup-longer p m r q ∙ rw ((extends-iff p q).1 (b, l))
 
+-- ---- the tests that come first
+
+-- a call refuses: it says so, the place stays, and a lent buffer is left as it was
+pub record Refused (i : Image) (k : ℕ) (r : Refusal) : Type 0 where
+  pub says : (s : List ℕ) → on_place i k s ≡ refuses r
+  pub stays : (to : ℕ) → from_place i k to ≡ k
+  pub leaves : (new old : List ℕ) → cond (image_test i) (cond (is_node (image_map i) k) new old) old ≡ old
+
+module _ (i : Image) (k : ℕ) where
+  pub no-image : image_test i ≡ false → Refused i k NotAnImage
+  no-image e = record { says = λ s. rw e; stays = λ to. rw e; leaves = λ new old. rw e }
+
+  no-node : image_test i ≡ true → is_node (image_map i) k ≡ false → Refused i k BadPlace
+  no-node e f = record { says = λ s. rw (e, f); stays = λ to. rw (e, f); leaves = λ new old. rw (e, f) }
+
+  pub checked-ok : (u : Unit {0}) → checked_place i k ≡ Ok u → (image_test i ≡ true) × (is_node (image_map i) k ≡ true)
+  checked-ok u = go (image_test i) (is_node (image_map i) k)
+    where
+      go : (t b : Bool) → cond t (cond b (Ok tt) (Err BadPlace)) (Err NotAnImage) ≡ Ok u → (t ≡ true) × (b ≡ true)
+      go true true e = (refl, refl)
+      go true false e = let z : ◌≡◌ {A = ℕ} 0 1 = cc in absurd (omega arith)
+      go false b e = let z : ◌≡◌ {A = ℕ} 0 1 = cc in absurd (omega arith)
+
+  pub checked-err : (r : Refusal) → checked_place i k ≡ Err r → Refused i k r
+  checked-err r = go (image_test i) refl (is_node (image_map i) k) refl
+    where
+      go : (t : Bool) → image_test i ≡ t → (b : Bool) → is_node (image_map i) k ≡ b → ◌≡◌ {A = Result (Unit {0}) Refusal} (cond t (cond b (Ok tt) (Err BadPlace)) (Err NotAnImage)) (Err r) → Refused i k r
+      go true e true f g = let z : ◌≡◌ {A = ℕ} 0 1 = cc in absurd (omega arith)
+      go true e false f g = let z : BadPlace ≡ r = cc in rw z at (no-node e f)
+      go false e b f g = let z : NotAnImage ≡ r = cc in rw z at (no-image e)
+
 -- ---- promises
 
 module _ (i : Image) (k : ℕ) (says : List ℕ) (to : ℕ) where
-  pub promise-refused : image_test i ≡ false → Promise (refuses NotAnImage) (on_place i k says) (place_at k) (from_place i k to)
-  promise-refused e = record { answers = rw e; stands = rw e }
-
-  pub promise-strange : image_test i ≡ true → is_node (image_map i) k ≡ false → Promise (refuses BadPlace) (on_place i k says) (place_at k) (from_place i k to)
-  promise-strange e f = record { answers = rw (e, f); stands = rw (e, f) }
+  pub promise-refused : (r : Refusal) → Refused i k r → Promise (refuses r) (on_place i k says) (place_at k) (from_place i k to)
+  promise-refused r refused = record { answers = sym (refused.says says); stands = ap place_at (sym (refused.stays to)) }
 
   pub promise-kept : image_test i ≡ true → is_node (image_map i) k ≡ true → (said : List ℕ) (node : ℕ) → said ≡ says → node ≡ to
       → Promise said (on_place i k says) (place_at node) (from_place i k to)

@@ -7,7 +7,7 @@ use Prim.Native.Nat.{ℕ, zero, suc, ◌+◌, ◌-◌, ◌≤◌, ◌<◌}
 use native.Mathlib.Omega.{arith}
 use mathlib.Core.Bool.{true, false, cond}
 use mathlib.Core.List.{List, [], ◌∷◌, ◌++◌, append_assoc, append-nil}
-use Rattle.std.specs.Prelude.{Option, None, Some}
+use Rattle.std.specs.Prelude.{Option, None, Some, Result, Ok}
 use lib.ListN.{length, get_or, take, length-append}
 use lib.Seq.{take_all}
 use borrow.Author.Tests.{lt-ltb, le-ltb}
@@ -35,9 +35,8 @@ use Rattle.walks.proofs.Laws.MapImage.{length-nodes}
 use Rattle.walks.proofs.Laws.MapWalk.{PathTold, there, absent, path-told, kid, child-rule, node-value}
 use Rattle.walks.proofs.Laws.MapMoves.{kids-path, kids-some}
 use Rattle.walks.proofs.Laws.Glide.{glided-at, common-node}
-use Rattle.places.specs.declared.answers.QueryMove.{QueryMove}
-use Rattle.places.specs.declared.answers.FollowMove.{FollowMove}
-use Rattle.places.specs.declared.answers.GotoMove.{GotoMove}
+use Rattle.places.specs.declared.answers.Answer.{Answer}
+use Rattle.places.specs.declared.answers.Moved.{Moved}
 use Rattle.places.specs.Incremental.{said_answer, says_ok, says_err, said_queried, said_followed, said_gone, place_at, path_says, walkable, follow_in, common_below, goto_in, QueryPromise, FollowPromise, GotoPromise}
 use Rattle.places.specs.Moves.{place_number, stand_in, count_from, answer_by, query_by, follow_stops, follow_ends, follow_from, follow_by, gone_to, goto_ends, goto_by}
 use Rattle.places.proofs.Laws.Incremental.{path_says-is, leaf-valued, longer-node, path-not, walkable-is, follow-empty, follow-whole, follow-failed, goto-none, goto-some, lookup-longer-same, lookup-longer-behind, promise-kept, query-promise, follow-promise, goto-promise}
@@ -102,13 +101,13 @@ module _ (i : Image) (h : MapImage i) where
             let is = (is_path-iff m q).1 on in
             query-promise i k a _ _
             (promise-kept i k _ _ tested belongs _ _
-            (ap (λ (r : QueryMove). said_queried r.answer) found ∙ rw is (ap (λ (n : ℕ). 0 ∷ n ∷ []) (answer-node c inside low ∙ ap (path_says m) path)))
-            (ap (λ (r : QueryMove). r.node) found ∙ rw is (number-node c inside)))
+            (ap (λ (r : Moved (Option Answer)). said_queried r.answer) found ∙ rw is (ap (λ (n : ℕ). 0 ∷ n ∷ []) (answer-node c inside low ∙ ap (path_says m) path)))
+            (ap (λ (r : Moved (Option Answer)). r.node) found ∙ rw is (number-node c inside)))
         go (absent off e) =
             let missed = query-missed i k a (child-rule i h k own a ∙ e) in
             let is = path-not m q off in
             query-promise i k a _ _
-            (promise-kept i k _ _ tested belongs _ _ (ap (λ (r : QueryMove). said_queried r.answer) missed ∙ rw is) (ap (λ (r : QueryMove). r.node) missed ∙ rw is))
+            (promise-kept i k _ _ tested belongs _ _ (ap (λ (r : Moved (Option Answer)). said_queried r.answer) missed ∙ rw is) (ap (λ (r : Moved (Option Answer)). r.node) missed ∙ rw is))
 
   -- ---- along a query
 
@@ -172,11 +171,11 @@ module _ (i : Image) (h : MapImage i) where
         p : Key
         p = path_of m k
 
-        kept : (q : Key) (r : FollowMove) → follow_by i k q ≡ r → said_followed r.answer ≡ follow_in m p q → r.node ≡ node_of m (p ++ take (walkable m p q) q)
+        kept : (q : Key) (r : Moved (Result Answer ℕ)) → follow_by i k q ≡ r → said_followed r.answer ≡ follow_in m p q → r.node ≡ node_of m (p ++ take (walkable m p q) q)
             → FollowPromise i q (place_at k) (follow_by i k q).answer (place_at (follow_by i k q).node)
         kept q r e answers stands =
             follow-promise i k q _ _
-            (promise-kept i k _ _ tested belongs _ _ (ap (λ (x : FollowMove). said_followed x.answer) e ∙ answers) (ap (λ (x : FollowMove). x.node) e ∙ stands))
+            (promise-kept i k _ _ tested belongs _ _ (ap (λ (x : Moved (Result Answer ℕ)). said_followed x.answer) e ∙ answers) (ap (λ (x : Moved (Result Answer ℕ)). x.node) e ∙ stands))
 
         -- all of it led on
         whole : (q : Key) → In (p ++ q) (nodes m) → place_number (node_of m (p ++ q)) ≡ node_of m (p ++ take (walkable m p q) q)
@@ -212,7 +211,7 @@ module _ (i : Image) (h : MapImage i) where
       let first : (kids_from b len (stand_in i k)).first ≡ d.first + 0 = omega (arith, run.first-is) in
       ap (kid_from b len k (kids_from b len (stand_in i k)).next) first ∙ run.kids-at 0 (omega (arith, one))
 
-  gone-says : (w : Option ℕ) (d : ℕ) → said_gone (gone_to w d) ≡ cond (given w) (says_ok d) (says_err d)
+  gone-says : (w : Option ℕ) (d : ℕ) → said_gone (Ok (gone_to w d)) ≡ cond (given w) (says_ok d) (says_err d)
   gone-says None d = refl
   gone-says (Some v) d = refl
 
@@ -239,11 +238,11 @@ module _ (i : Image) (h : MapImage i) where
         on : 0 < degree m p → is_prefix_in p m ≡ true
         on l = sym (kids-some i h k n) ∙ lt-ltb 0 (count_from i (stand_in i k)) (omega (arith, count))
 
-        kept : (r : GotoMove) → goto_by i k ≡ r → said_gone r.answer ≡ goto_in m p → r.node ≡ cond (is_prefix_in p m) (node_of m (common_below m p)) k
+        kept : (r : Moved (Result ℕ ℕ)) → goto_by i k ≡ r → said_gone r.answer ≡ goto_in m p → r.node ≡ cond (is_prefix_in p m) (node_of m (common_below m p)) k
             → GotoPromise i (place_at k) (goto_by i k).answer (place_at (goto_by i k).node)
         kept r e answers stands =
             goto-promise i k _ _
-            (promise-kept i k _ _ tested belongs _ _ (ap (λ (x : GotoMove). said_gone x.answer) e ∙ answers) (ap (λ (x : GotoMove). x.node) e ∙ stands))
+            (promise-kept i k _ _ tested belongs _ _ (ap (λ (x : Moved (Result ℕ ℕ)). said_gone x.answer) e ∙ answers) (ap (λ (x : Moved (Result ℕ ℕ)). x.node) e ∙ stands))
 
         go : Fork m p → GotoPromise i (place_at k) (goto_by i k).answer (place_at (goto_by i k).node)
         go (ends none_below e) =
@@ -271,7 +270,7 @@ module _ (i : Image) (h : MapImage i) where
             let distance : length q - length p ≡ g.steps + 1 = omega (arith, far) in
             kept _
             (goto-through i k (count ∙ e) ∙ ap (λ (s : Stand). goto_ends i (glided_from i.labels i.values (bit i.words) (bits_for (entries i)) s)) (kid_is_only k n d e))
-            (ap (λ (w : Option ℕ). said_gone (gone_to w (g.steps + 1))) (node-value i h g.stand.node glided.inside)
+            (ap (λ (w : Option ℕ). said_gone (Ok (gone_to w (g.steps + 1)))) (node-value i h g.stand.node glided.inside)
             ∙ gone-says (lookup q m) (g.steps + 1)
             ∙ sym (goto-some m p q (lookup q m) goes (sym path) behind ∙ ap (λ (x : ℕ). cond (given (lookup q m)) (says_ok x) (says_err x)) distance))
             (number-node g.stand.node glided.inside

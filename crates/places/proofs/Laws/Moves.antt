@@ -18,7 +18,7 @@ use native.Mathlib.Numerals.{add-one}
 use native.Mathlib.Omega.{arith}
 use mathlib.Core.Bool.{Bool, true, false}
 use mathlib.Core.List.{List, [], ◌∷◌}
-use Rattle.std.specs.Prelude.{Option, None, Some}
+use Rattle.std.specs.Prelude.{Option, None, Some, Ok, Err}
 use lib.ListN.{length, get_or, drop}
 use lib.Seq.{drop-cons}
 use borrow.Author.Tests.{lt-ltb, le-ltb, eq-eqb, ne_eqb}
@@ -37,9 +37,6 @@ use Rattle.walks.specs.Stands.{kid_from}
 use Rattle.walks.specs.Glide.{goes_through, only_kid, glides, glided_from}
 use Rattle.walks.proofs.Laws.Stands.{RunTold, kids-lost, kids-run}
 use Rattle.places.specs.declared.answers.Answer.TheVariants.{Match}
-use Rattle.places.specs.declared.answers.Queried.TheVariants as queried
-use Rattle.places.specs.declared.answers.Followed.TheVariants as followed
-use Rattle.places.specs.declared.answers.Gone.TheVariants as gone
 use Rattle.places.specs.Moves.{place_number, stand_in, count_from, held_in, inner_says, answer_by, query_to, query_by, follow_stops, follow_ends, follow_to, follow_from, gone_to, goto_ends, goto_by}
 
 pub number-large : (k : ℕ) → 4294967295 < k → place_number k ≡ 0
@@ -64,12 +61,12 @@ module _ (i : Image) (s : Stand) where
 -- ---- one label
 
 module _ (i : Image) (k a : ℕ) where
-  pub query-missed : child_by i.labels (bit i.words) (bits_for (entries i)) k a ≡ None → query_by i k a ≡ record { answer = queried.NoMatch; node = k }
+  pub query-missed : child_by i.labels (bit i.words) (bits_for (entries i)) k a ≡ None → query_by i k a ≡ record { answer = Ok None; node = k }
   unfolding query_by
   query-missed e = ap (query_to i k) e
 
   pub query-found : (m : ℕ) → child_by i.labels (bit i.words) (bits_for (entries i)) k a ≡ Some m
-      → query_by i k a ≡ record { answer = queried.Found (answer_by i (stand_in i m)); node = place_number m }
+      → query_by i k a ≡ record { answer = Ok (Some (answer_by i (stand_in i m))); node = place_number m }
   unfolding query_by
   query-found m e = ap (query_to i k) e
 
@@ -83,7 +80,7 @@ module _ (i : Image) where
   pub ends-empty : (j k : ℕ) → j ≡ 0 → follow_ends i j k ≡ follow_stops 0 k
   ends-empty j k e = rw (eq-eqb j 0 e)
 
-  pub ends_some : (j k : ℕ) → ¬ (j ≡ 0) → follow_ends i j k ≡ record { answer = followed.Ok (answer_by i (stand_in i k)); node = place_number k }
+  pub ends_some : (j k : ℕ) → ¬ (j ≡ 0) → follow_ends i j k ≡ record { answer = Ok (Ok (answer_by i (stand_in i k))); node = place_number k }
   ends_some j k e = rw (ne_eqb j 0 e)
 
   pub follow-next : (a : ℕ) (q : Key) (j k : ℕ) (o : Option ℕ) → child_by i.labels (bit i.words) (bits_for (entries i)) k a ≡ o
@@ -123,11 +120,11 @@ module _ (i : Image) (k : ℕ) where
         sym (ap (λ (x : Kids). kid x.next x.first) told.kids ∙ ap (λ (n : ℕ). kid n f) (omega (arith, one)))
 
 module _ (i : Image) (k : ℕ) where
-  pub goto-leaf : count_from i (stand_in i k) ≡ 0 → goto_by i k ≡ record { answer = gone.Ok 0; node = k }
+  pub goto-leaf : count_from i (stand_in i k) ≡ 0 → goto_by i k ≡ record { answer = Ok (Ok 0); node = k }
   unfolding goto_by
   goto-leaf e = rw (eq-eqb (count_from i (stand_in i k)) 0 e)
 
-  pub goto-several : 1 < count_from i (stand_in i k) → goto_by i k ≡ record { answer = gone.Err 0; node = k }
+  pub goto-several : 1 < count_from i (stand_in i k) → goto_by i k ≡ record { answer = Ok (Err 0); node = k }
   unfolding goto_by
   goto-several l = rw (ne_eqb (count_from i (stand_in i k)) 0 (omega arith), lt-ltb 1 (count_from i (stand_in i k)) l)
 
@@ -138,11 +135,11 @@ module _ (i : Image) (k : ℕ) where
 
   -- through the only child, to where the glide ends
   module _ (one : count_from i (stand_in i k) ≡ 1) (g : Glided) (glided : g ≡ glided_from i.labels i.values (bit i.words) (bits_for (entries i)) (only_kid (bit i.words) (bits_for (entries i)) (stand_in i k))) (n : ℕ) (number : n ≡ place_number g.stand.node) where
-    pub goto-key : (v : ℕ) → held_in i g.stand.node ≡ Some v → record { answer = gone.Ok (g.steps + 1); node = n } ≡ goto_by i k
-    goto-key v held = sym (goto-through one ∙ ap (goto_ends i) (sym glided) ∙ (λ x. record { answer = gone_to (held x) (g.steps + 1); node = sym number x }))
+    pub goto-key : (v : ℕ) → held_in i g.stand.node ≡ Some v → record { answer = Ok (Ok (g.steps + 1)); node = n } ≡ goto_by i k
+    goto-key v held = sym (goto-through one ∙ ap (goto_ends i) (sym glided) ∙ (λ x. record { answer = Ok (gone_to (held x) (g.steps + 1)); node = sym number x }))
 
-    pub goto-parting : held_in i g.stand.node ≡ None → record { answer = gone.Err (g.steps + 1); node = n } ≡ goto_by i k
-    goto-parting held = sym (goto-through one ∙ ap (goto_ends i) (sym glided) ∙ (λ x. record { answer = gone_to (held x) (g.steps + 1); node = sym number x }))
+    pub goto-parting : held_in i g.stand.node ≡ None → record { answer = Ok (Err (g.steps + 1)); node = n } ≡ goto_by i k
+    goto-parting held = sym (goto-through one ∙ ap (goto_ends i) (sym glided) ∙ (λ x. record { answer = Ok (gone_to (held x) (g.steps + 1)); node = sym number x }))
 
 -- every step of a glide takes one of its turns
 module _ (ls vs : List ℕ) (b : ℕ → ℕ) (len : ℕ) where

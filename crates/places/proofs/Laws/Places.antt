@@ -1,9 +1,9 @@
 -- What the readers of a place say, by the tests that come first: the image, the number, and the buffer where the path is written.
 --
---     on_place-refused, on_place-strange, on_place-kept  what any call on a place says
+--     on_place-kept  what any call on a place says of one that belongs
 --     resume-is, value-is, prefix_len-is  the calls that write nothing
 --     value-root, prefix_len-root, prefix-root  "at the root no value, empty, 0"
---     prefix-refused, prefix-strange, prefix-short, prefix-written  what `prefix` says, and the buffer afterwards
+--     prefix-stays, prefix-refused, prefix-short, prefix-written  what `prefix` says, and the buffer afterwards
 -- Assumes nothing.
 use mathlib.Core.Path.{◌≡◌, refl, ap, ◌∙◌}
 use Prim.Native.Nat.{ℕ, ◌≤◌, ◌<◌}
@@ -13,7 +13,8 @@ use mathlib.Core.List.{List, [], ◌∷◌, ◌++◌}
 use lib.ListN.{length, drop}
 use Rattle.keymap.specs.Key.{Key}
 use Rattle.keymap.specs.Refusals.{refuses}
-use Rattle.keymap.specs.declared.refusals.Refusal.TheVariants.{NotAnImage, BadPlace, KeyRoom}
+use Rattle.keymap.specs.declared.refusals.Refusal.{Refusal}
+use Rattle.keymap.specs.declared.refusals.Refusal.TheVariants.{NotAnImage, KeyRoom}
 use Rattle.keymap.specs.Map.{lookup}
 use Rattle.keymap.specs.Image.{Image}
 use Rattle.keymap.specs.Paths.{is_node, path_of}
@@ -27,15 +28,10 @@ use Rattle.image.specs.Meaning.{MapImage}
 use Rattle.places.specs.Incremental.{on_place}
 use Rattle.places.specs.Places.{resume_says, value_says, prefix_len_says, prefix_says, prefix_out}
 use Rattle.walks.proofs.Laws.MapImage.{length-nodes}
+use Rattle.places.proofs.Laws.Incremental.{Refused, no-image}
 
 module _ (i : Image) (k : ℕ) where
   module _ (says : List ℕ) where
-    pub on_place-refused : image_test i ≡ false → on_place i k says ≡ refuses NotAnImage
-    on_place-refused e = rw e
-
-    pub on_place-strange : image_test i ≡ true → is_node (image_map i) k ≡ false → on_place i k says ≡ refuses BadPlace
-    on_place-strange e f = rw (e, f)
-
     pub on_place-kept : image_test i ≡ true → is_node (image_map i) k ≡ true → on_place i k says ≡ says
     on_place-kept e f = rw (e, f)
 
@@ -56,28 +52,26 @@ pub record PrefixIs (i : Image) (k : ℕ) (out : List ℕ) (says : List ℕ) (af
   pub after_is : prefix_out i k out ≡ after
 
 module _ (i : Image) (k : ℕ) (out : List ℕ) where
-  pub prefix-refused : image_test i ≡ false → PrefixIs i k out (refuses NotAnImage) out
+  pub prefix-stays : (r : Refusal) → Refused i k r → PrefixIs i k out (refuses r) out
   unfolding prefix_says prefix_out
-  prefix-refused e = record { says_is = rw e; after_is = rw e }
+  prefix-stays r refused = record { says_is = refused.says _; after_is = refused.leaves _ _ }
 
-  module _ (tested : image_test i ≡ true) where
-    pub prefix-strange : is_node (image_map i) k ≡ false → PrefixIs i k out (refuses BadPlace) out
+  pub prefix-refused : image_test i ≡ false → PrefixIs i k out (refuses NotAnImage) out
+  prefix-refused e = prefix-stays NotAnImage (no-image i k e)
+
+  module _ (tested : image_test i ≡ true) (node : is_node (image_map i) k ≡ true) where
+    pub prefix-short : length out < length (path_of (image_map i) k) → PrefixIs i k out (refuses KeyRoom) out
     unfolding prefix_says prefix_out
-    prefix-strange e = record { says_is = rw (tested, e); after_is = rw (tested, e) }
+    prefix-short l =
+        let w = written-short (path_of (image_map i) k) out l in
+        record { says_is = rw (tested, node) w.says_is; after_is = rw (tested, node) w.after_is }
 
-    module _ (node : is_node (image_map i) k ≡ true) where
-      pub prefix-short : length out < length (path_of (image_map i) k) → PrefixIs i k out (refuses KeyRoom) out
-      unfolding prefix_says prefix_out
-      prefix-short l =
-          let w = written-short (path_of (image_map i) k) out l in
-          record { says_is = rw (tested, node) w.says_is; after_is = rw (tested, node) w.after_is }
-
-      pub prefix-written : length (path_of (image_map i) k) ≤ length out
-          → PrefixIs i k out (0 ∷ length (path_of (image_map i) k) ∷ []) (path_of (image_map i) k ++ drop (length (path_of (image_map i) k)) out)
-      unfolding prefix_says prefix_out
-      prefix-written l =
-          let w = written-fits (path_of (image_map i) k) out l in
-          record { says_is = rw (tested, node) w.says_is; after_is = rw (tested, node) w.after_is }
+    pub prefix-written : length (path_of (image_map i) k) ≤ length out
+        → PrefixIs i k out (0 ∷ length (path_of (image_map i) k) ∷ []) (path_of (image_map i) k ++ drop (length (path_of (image_map i) k)) out)
+    unfolding prefix_says prefix_out
+    prefix-written l =
+        let w = written-fits (path_of (image_map i) k) out l in
+        record { says_is = rw (tested, node) w.says_is; after_is = rw (tested, node) w.after_is }
 
 -- ---- the root
 

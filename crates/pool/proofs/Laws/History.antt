@@ -34,7 +34,7 @@ use Rattle.records.specs.Words.{Pool, record_words, used_count, Bounded, capacit
 use Rattle.records.specs.Sound.{Sound}
 use Rattle.records.specs.Meaning.{pool_map}
 use Rattle.records.proofs.Laws.Sound.{used-within}
-use Rattle.records.proofs.Laws.SoundTest.{sound-passed}
+use Rattle.records.proofs.Laws.SoundTest.{sound-test}
 use Rattle.records.proofs.Laws.Meaning.{map-catalogue, count-prefixes}
 use Rattle.pool.specs.Answers.{accepted}
 use Rattle.pool.specs.Reset.{reset_pool}
@@ -48,7 +48,7 @@ use Rattle.pool.proofs.Laws.Meaning.{reset-means-empty, push-means-insert, push-
 module _ (p : Pool) (s : Sound p) where
   push-says : (k : Key) (v : ℕ) → push_says p k ≡ map_says (capacity p) (pool_map p) (PoolCall.push k v)
   unfolding tested_says
-  push-says k v = sym (push-tested p k (sound-passed p s)) ∙ go (eqb (length k) 0) refl
+  push-says k v = sym (push-tested p k s.rooted (sound-test p s)) ∙ go (eqb (length k) 0) refl
     where
       go : (t : Bool) → eqb (length k) 0 ≡ t
           → cond t (refuses Refusal.EmptyKey) (cond (has_room p k) (0 ∷ []) (refuses Refusal.NoRoom))
@@ -59,7 +59,7 @@ module _ (p : Pool) (s : Sound p) where
   pub call-says : (c : PoolCall) → call_says p c ≡ map_says (capacity p) (pool_map p) c
   call-says PoolCall.reset = sym (reset-done p s.rooted).0
   call-says (PoolCall.push k v) = push-says k v
-  call-says PoolCall.use_count = sym (use-count-sound p (sound-passed p s)) ∙ ap (λ (n : ℕ). 0 ∷ n ∷ []) (sym (count-prefixes p s))
+  call-says PoolCall.use_count = sym (use-count-sound p s.rooted (sound-test p s)) ∙ ap (λ (n : ℕ). 0 ∷ n ∷ []) (sym (count-prefixes p s))
 
   push-map : (k : Key) (v : ℕ) → Bytes k → pool_map (push_pool p k v) ≡ call_map (capacity p) (pool_map p) (PoolCall.push k v)
   push-map k v b = go (accepted (push_says p k)) refl ∙ ap (λ (a : List ℕ). cond (accepted a) (insert k v (pool_map p)) (pool_map p)) (push-says k v)

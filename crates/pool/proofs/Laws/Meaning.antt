@@ -35,7 +35,7 @@ use Rattle.records.specs.Meaning.{pool_map, Holds}
 use Rattle.records.proofs.Laws.Distinct.{equal_or_not}
 use Rattle.records.proofs.Laws.Words.{next-unused, in-use-taken, in-use-stays, next-in-use}
 use Rattle.records.proofs.Laws.Sound.{used-within, none-in-use}
-use Rattle.records.proofs.Laws.SoundTest.{sound-passed}
+use Rattle.records.proofs.Laws.SoundTest.{sound-test}
 use Rattle.records.proofs.Laws.Spelling.{spells-child, spells-one-path, spells-one-record}
 use Rattle.records.proofs.Laws.Meaning.{map-rising, map-holds, count-prefixes, missing-rest}
 use Rattle.pool.specs.Answers.{accepted}
@@ -296,4 +296,4 @@ module _ (p : Pool) (key : Key) (s : Sound p) (nonempty : length key ≡ 0 → �
   present-accepted w e =
       let z = missing-present key w (pool_map p) (map-rising p s) e in
       let n = missing-means-missing in
-      sym (tested-done p key nonempty (omega (arith, used-within p s)) ∙ push-tested p key (sound-passed p s))
+      sym (tested-done p key nonempty (omega (arith, used-within p s)) ∙ push-tested p key s.rooted (sound-test p s))

@@ -6,22 +6,20 @@
 -- Assumes nothing.
 use Prim.Native.Nat.{ℕ, suc, ◌+◌, ◌≤◌, ◌<◌}
 use mathlib.Core.Path.{◌≡◌, refl, ap}
-use mathlib.Core.Bool.{Bool, true, false, cond}
+use Rattle.std.specs.Prelude.{Option, None, Some}
 use mathlib.Core.List.{[], ◌∷◌, ◌++◌}
 use mathlib.Core.Logic.{inl, inr}
 use native.Mathlib.Omega.{arith}
 use native.Mathlib.Numerals.{add-one}
 use lib.ListN.{length, drop, get_or, length-append, drop_of_length-le}
 use lib.Seq.{drop-cons, drop-append_seam}
-use lib.Dec.{eqb}
-use borrow.Author.Tests.{eq-eqb, ne_eqb, eqb-true, eqb-false}
 use Rattle.keymap.specs.Key.{Key, Bytes}
 use Rattle.records.specs.Words.{Pool, InUse, Node}
 use Rattle.records.specs.Sound.{ChildChain}
 use Rattle.records.specs.Spelling.{Spells, Stops}
 use Rattle.pool.specs.declared.path.Reach.{Reach}
 use Rattle.pool.specs.Siblings.{child_at}
-use Rattle.pool.specs.Path.{reach_at, reach_from, reach_of, missing_labels}
+use Rattle.pool.specs.Path.{reach_at, on_child, reach_from, reach_of, missing_labels}
 use Rattle.pool.proofs.Laws.Siblings.{child-is, child-absent}
 
 module _ (p : Pool) (key : Key) (i d : ℕ) where
@@ -29,13 +27,13 @@ module _ (p : Pool) (key : Key) (i d : ℕ) where
   unfolding reach_from
   reach-end h = rw (drop_of_length-le key h)
 
-  pub reach-none : d < length key → child_at p i (get_or key d 0) ≡ 0 → reach_from p i d (drop d key) ≡ reach_at i d
+  pub reach-none : d < length key → child_at p i (get_or key d 0) ≡ None → reach_from p i d (drop d key) ≡ reach_at i d
   unfolding reach_from
-  reach-none l h = rw (drop-cons key d 0 l) (simp (eq-eqb _ _ h))
+  reach-none l h = rw (drop-cons key d 0 l) (rw h)
 
-  pub reach_step : d < length key → (child_at p i (get_or key d 0) ≡ 0 → ⊥) → reach_from p i d (drop d key) ≡ reach_from p (child_at p i (get_or key d 0)) (d + 1) (drop (d + 1) key)
+  pub reach_step : (c : ℕ) → d < length key → child_at p i (get_or key d 0) ≡ Some c → reach_from p i d (drop d key) ≡ reach_from p c (d + 1) (drop (d + 1) key)
   unfolding reach_from
-  reach_step l h = rw (drop-cons key d 0 l) (simp (ne_eqb _ _ h, add-one))
+  reach_step c l h = rw (drop-cons key d 0 l) (rw (h, add-one))
 
 pub reach-of-start : (p : Pool) (key : Key) → reach_of p key ≡ reach_from p 0 0 key
 unfolding reach_of
@@ -53,20 +51,20 @@ module _ (p : Pool) (K : (c : ℕ) → Node p c → ChildChain p c) where
   split_from : (bs : Key) (i d : ℕ) → Node p i → Split p i d bs (reach_from p i d bs)
   unfolding reach_from
   split_from [] i d n = record { there = []; rest = []; whole = refl; depth = omega arith; spells = refl; stops = tt }
-  split_from (b ∷ bs) i d n = go (eqb (child_at p i b) 0) refl (λ u. split_from bs (child_at p i b) (d + 1) (inr u))
+  split_from (b ∷ bs) i d n = go (child_at p i b) refl (λ c u. split_from bs c (d + 1) (inr u))
     where
-      go : (t : Bool) → eqb (child_at p i b) 0 ≡ t → (InUse p (child_at p i b) → Split p (child_at p i b) (d + 1) bs (reach_from p (child_at p i b) (d + 1) bs))
-          → Split p i d (b ∷ bs) (cond t (reach_at i d) (reach_from p (child_at p i b) (d + 1) bs))
-      go true e on = record { there = []; rest = b ∷ bs; whole = refl; depth = omega arith; spells = refl; stops = child-absent p i b (K i n) (eqb-true _ _ e) }
-      go false e on =
-          let c = child-is p i b (K i n) (omega (arith, eqb-false (child_at p i b) 0 e)) in
-          let r = on c.0 in
+      go : (o : Option ℕ) → child_at p i b ≡ o → ((c : ℕ) → InUse p c → Split p c (d + 1) bs (reach_from p c (d + 1) bs))
+          → Split p i d (b ∷ bs) (on_child o (λ c. reach_from p c (d + 1) bs) (reach_at i d))
+      go None e on = record { there = []; rest = b ∷ bs; whole = refl; depth = omega arith; spells = refl; stops = child-absent p i b (K i n) e }
+      go (Some k) e on =
+          let c = child-is p i b (K i n) k e in
+          let r = on k c.0 in
           record {
             there = b ∷ r.there;
             rest = r.rest;
             whole = ap (λ (l : Key). b ∷ l) r.whole;
             depth = omega (arith, r.depth);
-            spells = (child_at p i b, c, r.spells);
+            spells = (k, c, r.spells);
             stops = r.stops;
           }
 

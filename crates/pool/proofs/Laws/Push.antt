@@ -15,7 +15,7 @@ use mathlib.Core.Logic.{◌⊎◌, inl, inr, ⊎_elim}
 use native.Mathlib.Omega.{arith}
 use lib.ListN.{length, drop, length-append}
 use lib.Dec.{leb, ltb, eqb}
-use borrow.Author.Tests.{le-ltb, le-leb, lt-leb, eq-eqb, ne_eqb, leb-true, eqb-false}
+use borrow.Author.Tests.{le-ltb, lt-ltb, le-leb, lt-leb, eq-eqb, ne_eqb, leb-true, eqb-false}
 use Rattle.keymap.specs.Key.{Key, Bytes}
 use Rattle.keymap.specs.Refusals.{refuses}
 use Rattle.keymap.specs.declared.refusals.Refusal.{Refusal}
@@ -23,7 +23,7 @@ use Rattle.records.specs.Words.{Pool, record_words, used_count, InUse, Node, cap
 use Rattle.records.specs.Sound.{Sound}
 use Rattle.records.specs.SoundTest.{sound_test, check_sound}
 use Rattle.records.proofs.Laws.Spelling.{spells-node, spells-in-use}
-use Rattle.records.proofs.Laws.SoundTest.{test-sound, passed-test}
+use Rattle.records.proofs.Laws.SoundTest.{test-sound}
 use Rattle.std.specs.Prelude.{Result, Ok, Err}
 use Rattle.pool.specs.declared.path.Reach.{Reach}
 use Rattle.pool.specs.Answers.{said_pushed, accepted}
@@ -52,6 +52,18 @@ module _ (p : Pool) (key : Key) where
   unfolding missing_labels
   missing-reach r e = rw e refl
 
+  pub push-small : length p < record_words → refuses Refusal.PoolTooSmall ≡ push_says p key
+  unfolding push_says
+  push-small h = simp (lt-ltb _ _ h)
+
+  pub push-unsound : record_words ≤ length p → sound_test p ≡ false → refuses Refusal.NotAPool ≡ push_says p key
+  unfolding push_says
+  push-unsound h e = simp (le-ltb _ _ h, e)
+
+  pub push-tested : record_words ≤ length p → sound_test p ≡ true → tested_says p key ≡ push_says p key
+  unfolding push_says
+  push-tested h e = simp (le-ltb _ _ h, e)
+
   -- a refusal of the pool is the push's, and leaves the pool as it was
   pub push-refused : (v : ℕ) (r : Refusal) → check_sound p ≡ Err r → (refuses r ≡ push_says p key) × (p ≡ push_pool p key v)
   unfolding check_sound push_says push_pool
@@ -63,10 +75,6 @@ module _ (p : Pool) (key : Key) where
       go true u q = let k : Refusal.PoolTooSmall ≡ r = cc in (ap refuses (sym k), refl)
       go false true q = absurd (cc)
       go false false q = let k : Refusal.NotAPool ≡ r = cc in (ap refuses (sym k), refl)
-
-  pub push-tested : check_sound p ≡ Ok tt → tested_says p key ≡ push_says p key
-  unfolding push_says
-  push-tested e = let t = passed-test p e in simp (le-ltb _ _ t.0, t.1)
 
   pub push-left : (v : ℕ) (q : Pool) → tested_says p key ≡ push_says p key → q ≡ cond (accepted (tested_says p key)) (inserted p key v) p → q ≡ push_pool p key v
   unfolding push_pool

@@ -5,7 +5,7 @@
 --     slot-from-prev          what the slot follows is where the search began, or one of the chain
 --     slot-from-finds         a sibling with the label is found
 --     placed-..               a chain with one record more, put in by label
---     child-here, child-none  the two cases of `child_at`
+--     child-here, ..          the cases of `child_at`
 --     child-found             the child with a label is the one
 --     child-is                what `child_at` gives is a child with that label
 --     child-absent            where it gives none there is none
@@ -19,7 +19,8 @@ use native.Mathlib.Omega.{arith}
 use native.Mathlib.Numerals.{sub-one}
 use lib.ListN.{length}
 use lib.Dec.{ltb, eqb}
-use borrow.Author.Tests.{le-ltb, lt-ltb, eq-eqb, ne_eqb, eqb-true}
+use borrow.Author.Tests.{le-ltb, lt-ltb, eq-eqb, ne_eqb, eqb-true, eqb-false}
+use Rattle.std.specs.Prelude.{None, Some}
 use Rattle.records.specs.Words.{Pool, label, first_child, next_sibling, last_record, Node}
 use Rattle.records.specs.Sound.{Among, Chain, LabelsRise, ChildChain}
 use Rattle.records.specs.Spelling.{ChildBy}
@@ -171,13 +172,17 @@ module _ (p q : Pool) (b m : ℕ) (lab : label q m ≡ b) where
 
 -- ---- the child with a label
 module _ (p : Pool) (i b : ℕ) (s : Slot) (e : s ≡ slot_of p i b) where
-  pub child-here : label p s.next ≡ b → s.next ≡ child_at p i b
+  pub child-here : (s.next ≡ 0 → ⊥) → label p s.next ≡ b → Some s.next ≡ child_at p i b
   unfolding child_at
-  child-here h = rw (← e) (simp (eq-eqb _ _ h))
+  child-here n h = rw (← e) (simp (ne_eqb _ _ n, eq-eqb _ _ h))
 
-  pub child-none : (label p s.next ≡ b → ⊥) → 0 ≡ child_at p i b
+  pub child-end : s.next ≡ 0 → None ≡ child_at p i b
   unfolding child_at
-  child-none h = rw (← e) (simp (ne_eqb _ _ h))
+  child-end h = rw (← e) (simp (eq-eqb _ _ h))
+
+  pub child-none : (s.next ≡ 0 → ⊥) → (label p s.next ≡ b → ⊥) → None ≡ child_at p i b
+  unfolding child_at
+  child-none n h = rw (← e) (simp (ne_eqb _ _ n, ne_eqb _ _ h))
 
 module _ (p : Pool) (i b : ℕ) (K : ChildChain p i) where
   pub slot-prev-child : ((slot_of p i b).prev ≡ 0) ⊎ Among (slot_of p i b).prev K.kids
@@ -194,24 +199,29 @@ module _ (p : Pool) (i b : ℕ) (K : ChildChain p i) where
   pub slot-next-node : Node p (slot_of p i b).next
   slot-next-node = ⊎_elim (λ z. inl z) (λ h. inr (K.only (slot_of p i b).next h).0) slot-next-child
 
-  pub child-found : (k : ℕ) → ChildBy p i b k → child_at p i b ≡ k
+  pub child-found : (k : ℕ) → ChildBy p i b k → child_at p i b ≡ Some k
   unfolding slot_of
   child-found k d =
       let f : (slot_of p i b).next ≡ k =
       slot-from-finds p b (last_record p) 0 (first_child p i) 0 K.kids K.chain K.rising (children-most p i K) k (K.all k d.0 d.1) d.2 in
-      sym (child-here p i b (slot_of p i b) refl (ap (λ (x : ℕ). label p x) f ∙ d.2)) ∙ f
+      sym (child-here p i b (slot_of p i b) refl (λ z. omega (arith, d.0.0)) (ap (λ (x : ℕ). label p x) f ∙ d.2)) ∙ ap Some f
 
-  pub child-is : 0 < child_at p i b → ChildBy p i b (child_at p i b)
+  pub child-is : (c : ℕ) → child_at p i b ≡ Some c → ChildBy p i b c
   unfolding child_at
-  child-is h = go (eqb (label p (slot_of p i b).next) b) refl h
+  child-is c h = go (eqb (slot_of p i b).next 0) (eqb (label p (slot_of p i b).next) b) refl refl h
     where
-      stands : 0 < (slot_of p i b).next → Among (slot_of p i b).next K.kids
-      stands z = ⊎_elim (λ (q : (slot_of p i b).next ≡ 0). absurd (omega arith)) (λ m. m) slot-next-child
+      stands : ((slot_of p i b).next ≡ 0 → ⊥) → Among (slot_of p i b).next K.kids
+      stands n = ⊎_elim (λ (q : (slot_of p i b).next ≡ 0). absurd (n q)) (λ m. m) slot-next-child
 
-      go : (t : Bool) → eqb (label p (slot_of p i b).next) b ≡ t → 0 < cond t (slot_of p i b).next 0 → ChildBy p i b (cond t (slot_of p i b).next 0)
-      go true q z = let o = K.only (slot_of p i b).next (stands z) in (o.0, o.1, eqb-true _ _ q)
-      go false q z = absurd (omega arith)
+      go : (t u : Bool) → eqb (slot_of p i b).next 0 ≡ t → eqb (label p (slot_of p i b).next) b ≡ u
+          → cond t None (cond u (Some (slot_of p i b).next) None) ≡ Some c → ChildBy p i b c
+      go true u r q z = absurd (cc)
+      go false true r q z =
+          let o = K.only (slot_of p i b).next (stands (eqb-false _ _ r)) in
+          let is : (slot_of p i b).next ≡ c = cc in
+          subst (ChildBy p i b) is (o.0, o.1, eqb-true _ _ q)
+      go false false r q z = absurd (cc)
 
   -- no child has the label where the search gives none
-  pub child-absent : child_at p i b ≡ 0 → (k : ℕ) → ChildBy p i b k → ⊥
-  child-absent z k c = omega (arith, child-found k c, c.0.0)
+  pub child-absent : child_at p i b ≡ None → (k : ℕ) → ChildBy p i b k → ⊥
+  child-absent z k c = let f = child-found k c in absurd (cc)

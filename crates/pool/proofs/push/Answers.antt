@@ -2,6 +2,7 @@
 use mathlib.Core.Path.{◌≡◌, sym, ◌∙◌, ap}
 use Rattle.std.proofs.Common.{rules}
 use Rattle.std.specs.Prelude.{Err}
+use Rattle.records.proofs.Laws.SoundTest.{passed-test}
 use Rattle.pool.specs.Answers.{said_pushed}
 use Rattle.pool.proofs.Laws.Push.{push-refused, push-tested, push-left}
 use Rattle.pool.proofs.push.Goals as goal
@@ -14,5 +15,6 @@ returns-in_err-check_sound c =
 
 pub returns : goal.returns
 returns c =
-    let e = push-tested _ c.args.key.now (sym c.check_sound.ensures.answer ∙ c.in_ok-check_sound.was) in
+    let t = passed-test _ (sym c.check_sound.ensures.answer ∙ c.in_ok-check_sound.was) in
+    let e = push-tested _ c.args.key.now t.0 t.1 in
     record { answer = c.push_tested.ensures.answer ∙ e; left = push-left _ _ _ _ e c.push_tested.ensures.left }

@@ -4,7 +4,6 @@
 --     chain-rest-..                      the chain's cases: its end, too many met, no child, a step
 --     record-rest-..                     the record's cases
 --     pass-..                            the pass's: one record more, broken for good
---     sound-..                           the cases of the whole test
 --     test-sound, sound-test, sound-iff  the test is true exactly of a sound pool
 --     said-means-sound                   and so is an answer that is the test's
 --     check-..                           the cases of the refusal; it is none exactly of a sound pool
@@ -16,7 +15,7 @@ use mathlib.Core.List.{List, [], ◌∷◌, ◌++◌}
 use mathlib.Core.Logic.{inl, inr, ⊎_elim, ◌↔◌}
 use lib.Dec.{leb, ltb, eqb}
 use lib.ListN.{length, length-append}
-use borrow.Author.Tests.{lt-ltb, le-leb, lt-leb, eq-eqb, ne_eqb, leb-true, ltb-true, eqb-true, eqb-false, le-ltb, ltb-false}
+use borrow.Author.Tests.{lt-ltb, le-leb, eq-eqb, ne_eqb, leb-true, ltb-true, eqb-true, eqb-false, le-ltb, ltb-false}
 use native.Mathlib.Omega.{arith}
 use native.Mathlib.Nat.{eq-or-lt_of_le}
 use native.Mathlib.Numerals.{sub-one}
@@ -26,7 +25,7 @@ use Rattle.std.specs.Prelude.{Option, None, Some, Result, Ok, Err}
 use Rattle.std.specs.Option.{option_eq}
 use Rattle.std.proofs.lemmas.Bool.Decides.{nat_tests}
 use Rattle.keymap.specs.declared.refusals.Refusal.{Refusal}
-use Rattle.records.specs.Words.{Pool, record_words, entry, label, value, first_child, next_sibling, parent, last_record, used_count, InUse, capacity}
+use Rattle.records.specs.Words.{Pool, record_words, entry, label, value, first_child, next_sibling, parent, last_record, used_count, InUse}
 use Rattle.records.specs.Sound.{Among, Chain, LabelsRise, ChildChain, Sound}
 use Rattle.records.specs.SoundTest.{both, words_fit, record_fits, is_child, chain_rest, record_rest, pass_rest, none_left, root_fits, sound_test, check_sound}
 use Rattle.records.proofs.Laws.Distinct.{Once, equal_or_not, in-append, in_left, in_right, once-append, once-at-most, cover-at-least, once-covers}
@@ -75,10 +74,6 @@ module _ (p : Pool) (n c : ℕ) where
   chain-rest-step zero x l e z b = absurd (z refl)
   chain-rest-step (suc k) x l e z b = simp (ne_eqb _ _ e, b, sub-one)
 
-  pub record-rest-unfit : (left : ℕ) → record_fits p n c ≡ false → record_rest p n c (Some left) ≡ None
-  unfolding record_rest
-  record-rest-unfit left e = simp e
-
   pub record-rest-fit : (left : ℕ) → record_fits p n c ≡ true → record_rest p n c (Some left) ≡ chain_rest p n c left (first_child p c) 0
   unfolding record_rest
   record-rest-fit left e = simp e
@@ -108,25 +103,6 @@ eq-none_left (Some k) = refl
 pub root-fits-within : (n most v x q : ℕ) → root_fits n most v x q ≡ true → n ≤ most
 unfolding root_fits
 root-fits-within n most v x q e = leb-true n most (both_first _ _ e)
-
-pub sound-short : (p : Pool) → length p < record_words → false ≡ sound_test p
-unfolding sound_test both
-sound-short p h = simp (lt-leb _ _ h)
-
--- where the root's words were read
-module _ (p : Pool) (n most v x q : ℕ) (long : record_words ≤ length p) (en : n ≡ last_record p) (em : most ≡ capacity p)
-    (ev : v ≡ value p 0) (ex : x ≡ next_sibling p 0) (eq : q ≡ parent p 0) where
-  pub sound-root : root_fits n most v x q ≡ false → false ≡ sound_test p
-  unfolding sound_test both
-  sound-root e =
-      let z : root_fits (last_record p) (capacity p) (value p 0) (next_sibling p 0) (parent p 0) ≡ false = rw (← en, ← em, ← ev, ← ex, ← eq) e in
-      simp (le-leb _ _ long, z)
-
-  pub sound-pass : (all : ℕ) → all ≡ used_count p → root_fits n most v x q ≡ true → none_left (pass_rest p n all (suc n)) ≡ sound_test p
-  unfolding sound_test both
-  sound-pass all ea e =
-      let z : root_fits (last_record p) (capacity p) (value p 0) (next_sibling p 0) (parent p 0) ≡ true = rw (← en, ← em, ← ev, ← ex, ← eq) e in
-      simp (le-leb _ _ long, z) (cc)
 
 -- ---- one record
 cond-unvalued : (e v f : ℕ) → cond (ltb e mark) (both (eqb v 0) (ltb 0 f)) true ≡ true → e < mark → (v ≡ 0) × (0 < f)

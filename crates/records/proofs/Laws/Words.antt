@@ -1,6 +1,5 @@
 -- Laws of the words of a pool: two words of a pool are one place only if they are one word of one record, so a word that is put changes no other.
 --
---     word-beyond               beyond the pool's end every word is 0
 --     word_at                   each word of the slice is some record's
 --     word-put-same, word-put-other  what a put leaves of the words
 --     length-put                it leaves the length
@@ -16,7 +15,7 @@
 use Prim.Native.Nat.{ℕ, ◌+◌, ◌*◌, ◌/◌, ◌%◌, ◌≤◌, ◌<◌}
 use mathlib.Core.Path.{◌≡◌, refl, sym, ◌∙◌, ap}
 use mathlib.Core.Logic.{◌⊎◌, inl, inr, ⊎_elim}
-use lib.ListN.{length, get_or, length-set, get_or-eq_default}
+use lib.ListN.{length, get_or, length-set}
 use lib.Seq.{get_or-set_same, get_or-set_other}
 use native.Mathlib.Omega.{arith}
 use Rattle.records.specs.Words.{Pool, record_words, word, put, entry, parent, last_record, used_count, InUse, Node, next_record, taken, capacity}
@@ -24,10 +23,6 @@ use Rattle.records.proofs.Laws.Distinct.{equal_or_not}
 
 apart : (c d k l : ℕ) → k < record_words → l < record_words → (c ≡ d → k ≡ l → ⊥) → record_words * d + l ≡ record_words * c + k → ⊥
 apart c d k l a b ne e = ⊎_elim (λ (q : c ≡ d). ne q (omega arith)) (λ nq. omega (arith, nq)) (equal_or_not c d)
-
-pub word-beyond : (p : Pool) (c k : ℕ) → length p ≤ record_words * c + k → word p c k ≡ 0
-unfolding word
-word-beyond p c k h = get_or-eq_default p 0 h
 
 pub word_at : (p : Pool) (j : ℕ) → get_or p j 0 ≡ word p (j / record_words) (j % record_words)
 unfolding word

@@ -1,5 +1,6 @@
 -- From a contract to 01's lines: whatever an outcome is that the contract of a call allows, on A's pool or on A's image it is the one that 01 tells.
 -- Each goes by the call's tie and a use of a statement. Assumes nothing.
+use Rattle.std.specs.Prelude.{ℕ, Result}
 use mathlib.Core.Path.{◌≡◌, ◌∙◌}
 use mathlib.Core.List.{[], ◌∷◌}
 use Rattle.keymap.specs.Contract.{Tells}
@@ -11,7 +12,8 @@ use Rattle.pool.proofs.push.Kinds as push-kinds
 use Rattle.pool.proofs.push.Reads as push-reads
 use Rattle.image.specs.Meaning.{image_in}
 use Rattle.places.specs.declared.answers.Place.{Place}
-use Rattle.places.specs.declared.answers.Followed.{Followed}
+use Rattle.keymap.specs.declared.refusals.Refusal.{Refusal}
+use Rattle.places.specs.declared.answers.Answer.{Answer}
 use Rattle.searches.specs.Answers.{said_looked}
 use Rattle.searches.specs.Exact.{exact_says}
 use Rattle.places.specs.Incremental.{place_at, said_followed, FollowPromise}
@@ -35,5 +37,5 @@ unfolding lookup compare_keys
 exact-match-ab κs a r s p image query = exact-match-says κs a r s p ∙ (λ i. exact_says (image i) (query i)) ∙ on_a.exact-match ab
 
 -- "A, `query_until` "ax": Err(1), place at "a"", which is node 2: of any answer and place that the promise allows
-pub query-until-ax : (r : Followed) (after : Place) → FollowPromise image_a ax (place_at 1) r after → (said_followed r ≡ 0 ∷ 1 ∷ 1 ∷ []) × (after.node ≡ 2)
+pub query-until-ax : (r : Result (Result Answer ℕ) Refusal) (after : Place) → FollowPromise image_a ax (place_at 1) r after → (said_followed r ≡ 0 ∷ 1 ∷ 1 ∷ []) × (after.node ≡ 2)
 query-until-ax r after p = let (answer, moved) = query-until-says image_a ax (place_at 1) r after p in (answer ∙ query-until.0, moved ∙ query-until.1)

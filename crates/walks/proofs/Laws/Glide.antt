@@ -3,7 +3,7 @@
 --
 --     through-valued, through-parted, through-kid  whether a glide goes on, by the first test that fails
 --     Through, through-told      and where it leads if it does
---     onward-goes, onward_stops  one step, and back: `onward-to`, `onward-end`
+--     onward-to, onward-end      what one step tells
 --     glided-starts, glides-end, glides-on  the glide, by the step
 --     glide-path                 on a map's image it ends at the node of the common prefix
 --     common-node                which is a node's path, and the path begins it
@@ -85,14 +85,6 @@ module _ (ls vs : List ℕ) (b : ℕ → ℕ) (len : ℕ) (s : Stand) where
       go None f true g =
           let (above, within) = counts-told (length ls) s.node (kids_from b len s).first (sym (through-kid f (eqb-true _ _ g)) ∙ e) in
           record { above = above; within = within }
-
-  pub onward-goes : goes_through ls vs b len s ≡ true → onward_from ls vs b len s ≡ Some (kid_from b len s.node (kids_from b len s).next (kids_from b len s).first)
-  unfolding onward_from only_kid
-  onward-goes e = rw e
-
-  pub onward_stops : goes_through ls vs b len s ≡ false → onward_from ls vs b len s ≡ None
-  unfolding onward_from
-  onward_stops e = rw e
 
   pub onward-to : (t : Stand) → onward_from ls vs b len s ≡ Some t → (goes_through ls vs b len s ≡ true) × (only_kid b len s ≡ t)
   unfolding onward_from

@@ -1,6 +1,5 @@
 -- R-7's rule by its cases.
 --
---     is_node_of-zero, is_node_of-upto  the test of a number
 --     counts_to-low, counts_to-upto  the test of a child's number
 --     matches-large, matches-small  an entry, by 512
 --     is_child_by-root, -low, -high, -entry  a number, by the first test that fails
@@ -28,17 +27,9 @@ use Rattle.keymap.specs.Key.{Key}
 use Rattle.keymap.specs.Label.{mark, label_in}
 use Rattle.louds.specs.Nodes.{Run}
 use Rattle.louds.specs.Nodes.{children_of}
-use Rattle.walks.specs.Rule.{is_node_of, counts_to, matches, is_child_by, lowest_by, child_by, step_by, walked_from, value_of_node}
+use Rattle.walks.specs.Rule.{counts_to, matches, is_child_by, lowest_by, child_by, step_by, walked_from, value_of_node}
 
 -- ---- numbers
-
-pub is_node_of-zero : (n k : ℕ) → k ≡ 0 → is_node_of n k ≡ false
-unfolding is_node_of
-is_node_of-zero n k e = rw e
-
-pub is_node_of-upto : (n k : ℕ) → ¬ (k ≡ 0) → is_node_of n k ≡ leb k (n + 1)
-unfolding is_node_of
-is_node_of-upto n k h = rw (le-leb 1 k (omega arith))
 
 module _ (last k m : ℕ) where
   pub counts_to-low : m ≤ k → counts_to last k m ≡ false

@@ -1,6 +1,6 @@
 -- A stand that knows its zero goes where the rule goes, on any bits: the zero behind the children is the next node's, and a child's zero lies ahead.
 --
---     is_stand-far, -zero, -small     a place, by the first test that fails
+--     is_stand-far, -node             a place, by whether it is inside; `is_stand-told`: what the test tells
 --     kids_from-none, kids_from-some  the children of a stand, by that test
 --     kids-numbered                   their numbers
 --     kids-rule                       they are the node's
@@ -22,7 +22,7 @@ use Rattle.std.specs.Prelude.{Option, None, Some, unwrap_or}
 use lib.Dec.{ltb, leb}
 use lib.ListN.{length, get_or, drop}
 use lib.Seq.{drop-cons}
-use borrow.Author.Tests.{lt-ltb, le-ltb, le-leb, lt-leb, ltb-true, leb-true}
+use borrow.Author.Tests.{lt-ltb, le-ltb, le-leb, ltb-true, leb-true}
 use Rattle.louds.specs.Rank.{gap}
 use Rattle.louds.specs.Select.{onward, zero_at, zero_from}
 use Rattle.louds.specs.Nodes.{Run, children_of}
@@ -46,10 +46,6 @@ module _ (len k p : ℕ) where
   is_stand-far h = rw (le-ltb p len h)
 
   module _ (inside : p < len) where
-    pub is_stand-zero : k ≡ 0 → is_stand len k p ≡ false
-    unfolding is_stand
-    is_stand-zero h = rw (lt-ltb p len inside, lt-leb 1 k (omega arith))
-
     pub is_stand-node : ¬ (k ≡ 0) → is_stand len k p ≡ leb k (p + 1)
     unfolding is_stand
     is_stand-node h = rw (lt-ltb p len inside, le-leb 1 k (omega arith))
@@ -286,11 +282,6 @@ reached_at-lost b len None e = refl
 reached_at-lost b len (Some k) e = let z : ◌≡◌ {A = ℕ} 0 1 = cc in absurd (omega arith)
 
 module _ (ls : List ℕ) (b : ℕ → ℕ) (len : ℕ) (s : Stand) (a : ℕ) where
-  pub down_from-there : (m : ℕ) → lowest_by ls s.node (kids_from b len s).count (kids_from b len s).first a ≡ Some m
-      → down_from ls b len s a ≡ Some (kid_from b len s.node (kids_from b len s).next m)
-  unfolding down_from
-  down_from-there m e = ap (to_kid b len s.node (kids_from b len s).next) e
-
   pub down_from-absent : lowest_by ls s.node (kids_from b len s).count (kids_from b len s).first a ≡ None → down_from ls b len s a ≡ None
   unfolding down_from
   down_from-absent e = ap (to_kid b len s.node (kids_from b len s).next) e

@@ -8,5 +8,5 @@ pub returns : goal.returns
 returns c =
     let a = c.args in
     let bytes = bytes_of a.text.now (λ j. (c.type_inv.text j).fits) in
-    let said = fills a.pool.now _ (omega arith) c.reset.ensures.left a.text.now bytes c.push_from.result _ c.push_from.ensures.answer c.push_from.ensures.left in
+    let said = fills a.pool.now _ (omega arith) c.reset.ensures.left a.text.now bytes c.push_lines.result _ c.push_lines.ensures.answer c.push_lines.ensures.left in
     record { answer = said.0; left = said.1.0; held = said.1.1 }

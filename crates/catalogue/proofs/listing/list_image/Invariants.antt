@@ -7,8 +7,8 @@ use Rattle.catalogue.proofs.Laws.Next.{rest_of}
 use Rattle.catalogue.proofs.Laws.Listing.{Listed}
 use Rattle.catalogue.proofs.listing.list_image.Given as goal
 
-abbrev pub invariant-loop-value : goal.invariant-loop-value
-invariant-loop-value l = (length l.out ≡ length l.initial.out) × Listed (as_image l.labels l.values l.words) l.initial.out l.cursor l.at l.out
+abbrev pub invariant-loop-given : goal.invariant-loop-given
+invariant-loop-given l = (length l.out ≡ length l.initial.out) × Listed (as_image l.labels l.values l.words) l.initial.out l.cursor l.at l.out
 
-abbrev pub decreases-loop-value : goal.decreases-loop-value
-decreases-loop-value l = length (rest_of (image_map (as_image l.labels l.values l.words)) l.cursor)
+abbrev pub decreases-loop-given : goal.decreases-loop-given
+decreases-loop-given l = length (rest_of (image_map (as_image l.labels l.values l.words)) l.cursor)

@@ -1,8 +1,7 @@
 -- `catalogue::listing::list_pool` meets its contract: the build is accepted, and what is lent of the buffers then is the image of the pool's map. Assumes nothing.
 use mathlib.Core.Path.{◌≡◌, refl, sym, ap, subst, ◌∙◌}
-use mathlib.Core.Bool.{true}
+use mathlib.Core.Bool.{true, false, true≢false}
 use Prim.Native.Nat.{ℕ, ◌≤◌}
-use native.Mathlib.Omega.{arith}
 use lib.ListN.{length}
 use lib.Seq.{length-take-le}
 use Rattle.keymap.specs.Map.{Map}
@@ -11,19 +10,19 @@ use Rattle.keymap.specs.Image.{bits_for}
 use Rattle.keymap.specs.Buffers.{over}
 use Rattle.records.proofs.Laws.Meaning.{map-catalogue}
 use Rattle.pool.specs.Answers.{accepted}
-use Rattle.image.specs.declared.answers.Built.{Built}
+use Rattle.std.specs.Prelude.{Result, Ok, Err}
+use Rattle.keymap.specs.declared.refusals.Refusal.{Refusal}
 use Rattle.image.specs.Build.{said_built}
 use Rattle.lines.specs.Writing.{map_text}
+use Rattle.catalogue.proofs.Laws.Filling.{not-accepted}
 use Rattle.catalogue.proofs.Laws.Building.{LentParts, word-bounded, lent-parts}
-use Rattle.catalogue.proofs.listing.list_pool.Goals.{After-words_for, In-Nodes}
+use Rattle.catalogue.proofs.listing.list_pool.Goals.{After-words_for, In-Ok}
 use Rattle.catalogue.proofs.listing.list_pool.Goals as goal
 
 -- a refused build is not accepted
-refused : (r : Built) → ((n : ℕ) → r ≡ Built.Nodes n → ⊥) → accepted (said_built r) ≡ true → ⊥
-refused (Built.Nodes n) none a = none n refl
-refused Built.PoolTooSmall none a = let z : ◌≡◌ {A = ℕ} 0 1 = cc in omega arith
-refused Built.NotAPool none a = let z : ◌≡◌ {A = ℕ} 0 1 = cc in omega arith
-refused Built.OutTooSmall none a = let z : ◌≡◌ {A = ℕ} 0 1 = cc in omega arith
+refused : (r : Result ℕ Refusal) → ((n : ℕ) → r ≡ Ok n → ⊥) → accepted (said_built r) ≡ true → ⊥
+refused (Ok n) none a = none n refl
+refused (Err r) none a = let z : true ≡ false = sym a ∙ not-accepted r in absurd (true≢false z)
 
 pub shape_of-labels-in_default : goal.shape_of-labels-in_default
 shape_of-labels-in_default c = c.build.auto.labels
@@ -39,24 +38,24 @@ shape_of-scratch-in_default c = c.build.auto.scratch
 
 pub returns-in_default : goal.returns-in_default
 returns-in_default c =
-    let none : ⊥ = refused c.build.result c.in_default.not-Nodes (ap accepted c.build.ensures.answer ∙ c.requires.granted) in
+    let none : ⊥ = refused c.build.result c.in_default.not-Ok (ap accepted c.build.ensures.answer ∙ c.requires.granted) in
     record { answer = absurd none; out = absurd none; labels = absurd none; values = absurd none; words = absurd none; scratch = absurd none }
 
 -- what the build left where its answer is n, if so many words are lent
-built : (c : In-Nodes) (w : ℕ) → w ≡ words_for (bits_for c.in-Nodes.n)
+built : (c : In-Ok) (w : ℕ) → w ≡ words_for (bits_for c.in-Ok.n)
     →
-    LentParts c.args.pool.now c.build.new.labels c.build.new.values c.build.new.words c.in-Nodes.n w
+    LentParts c.args.pool.now c.build.new.labels c.build.new.values c.build.new.words c.in-Ok.n w
 built c w sized =
     let a = c.args in
     let left = c.build.ensures in
     lent-parts a.pool.now a.labels.now a.values.now a.words.now a.scratch.now _ w _ _ _ sized (λ s₁. map-catalogue _ s₁ (word-bounded _ (λ j. (c.type_inv.pool j).fits)))
-    (ap said_built (sym c.in-Nodes.is) ∙ left.answer) left.labels left.values left.words
+    (ap said_built (sym c.in-Ok.is) ∙ left.answer) left.labels left.values left.words
 
 -- as many as are lent
 shown : (c : After-words_for)
     →
-    LentParts c.args.pool.now c.build.new.labels c.build.new.values c.build.new.words c.in-Nodes.n c.words_for.result
-shown c = built (goal.at.slice_bounds-list_image-end-5 c).In-Nodes c.words_for.result c.words_for.ensures
+    LentParts c.args.pool.now c.build.new.labels c.build.new.values c.build.new.words c.in-Ok.n c.words_for.result
+shown c = built (goal.at.slice_bounds-list_image-end-5 c).In-Ok c.words_for.result c.words_for.ensures
 
 pub slice_bounds-list_image-end : goal.slice_bounds-list_image-end
 slice_bounds-list_image-end c = (built c _ refl).labels_in

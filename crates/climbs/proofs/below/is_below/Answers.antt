@@ -1,22 +1,11 @@
-use mathlib.Core.Path.{sym, ap, ◌∙◌}
+use mathlib.Core.Path.{sym, ◌∙◌}
 use native.Mathlib.Omega.{arith}
 use Rattle.keymap.specs.Bits.{bit}
 use Rattle.keymap.proofs.Laws.Bits.{bit-small}
-use Rattle.climbs.specs.declared.perches.Perch.{Perch}
-use Rattle.climbs.specs.Perches.{perch_at}
-use Rattle.climbs.specs.Below.{below_by}
 use Rattle.climbs.proofs.Laws.Perches.{RiseTold, rise-to, rise-lost}
 use Rattle.climbs.proofs.Laws.Below.{below_by-here, below_by-lost, below_by-up}
 use Rattle.climbs.proofs.below.is_below.Goals.{In-Some}
 use Rattle.climbs.proofs.below.is_below.Goals as goal
-
-pub loop-at-init : goal.loop-at-init
-loop-at-init c =
-    let a = c.args in
-    let b = bit a.words.now in
-    let told = c.perch_at-at.ensures in
-    let own = ap (λ (p : Perch). p.node) told in
-    (told ∙ ap (perch_at b a.len) (sym own), ap (below_by b a.len a.top) (sym own))
 
 pub returns-in_default : goal.returns-in_default
 returns-in_default c =

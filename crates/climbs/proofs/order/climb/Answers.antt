@@ -1,11 +1,8 @@
-use mathlib.Core.Path.{refl, sym, ◌∙◌}
+use mathlib.Core.Path.{sym, ◌∙◌}
 use native.Mathlib.Omega.{arith}
 use Rattle.keymap.specs.Bits.{bit}
 use Rattle.climbs.proofs.Laws.Moves.{rise-lower, climb_from-top, climb_from-beside, climb_from-lost, climb_from-up}
 use Rattle.climbs.proofs.order.climb.Goals as goal
-
-pub loop-at-init : goal.loop-at-init
-loop-at-init c = refl
 
 pub returns-in-Some : goal.returns-in-Some
 returns-in-Some c =

@@ -1,20 +1,9 @@
-use mathlib.Core.Path.{◌≡◌, sym, ap, ◌∙◌}
 use native.Mathlib.Omega.{arith}
 use Rattle.keymap.specs.Bits.{bit}
 use Rattle.keymap.proofs.Laws.Bits.{bit-small}
-use Rattle.climbs.specs.declared.perches.Perch.{Perch}
-use Rattle.climbs.specs.Perches.{depth_by, perch_at}
 use Rattle.climbs.proofs.Laws.Perches.{depth-root, depth-next, RiseTold, rise-to, rise-lost}
 use Rattle.climbs.proofs.perches.depth.Goals.{In-Some}
 use Rattle.climbs.proofs.perches.depth.Goals as goal
-
-pub loop-up-init : goal.loop-up-init
-loop-up-init c =
-    let a = c.args in
-    let b = bit a.words.now in
-    let told = c.perch_at-at.ensures in
-    let own : c.perch_at-at.result.node ≡ a.node = ap (λ (p : Perch). p.node) told in
-    (told ∙ ap (perch_at b a.len) (sym own), omega (arith, own), omega (arith, ap (depth_by b a.len) own))
 
 pub returns : goal.returns
 returns c =

@@ -1,4 +1,4 @@
--- `descents::far::go_far` meets its contract. The invariant: the word kept has the node's zero or stands before it (`Keeping`), and the walk is the walk from the node along what is left.
+-- `descents::far::go_far` meets its contract. The invariant: the word kept has the node's zero or stands before it (`Keeping`), the walk is the walk from the node along what is left, and no step is left out so far.
 -- Assumes nothing.
 use mathlib.Core.Path.{◌≡◌}
 use Rattle.std.specs.Prelude.{Some}

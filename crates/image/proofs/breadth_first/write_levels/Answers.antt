@@ -14,13 +14,13 @@ use Rattle.image.proofs.breadth_first.write_levels.Goals as goal
 
 pub clear-requires : goal.clear-requires
 clear-requires c =
-    omega (arith, c.words_for.ensures, c.requires.words-fit)
+    omega (arith, c.words_for-count.ensures, c.requires.words-fit)
 
 start-words : (c : After-slice_known-4-1)
     → c.put_one.new.words ≡ with_one (over (replicate (words_for (bits_for c.args.n)) 0) c.args.words.now) 0
 start-words c =
     c.put_one.ensures
-    ∙ ap (λ (ws : List ℕ). with_one ws 0) (c.clear.ensures ∙ ap (λ (w : ℕ). over (replicate w 0) c.args.words.now) c.words_for.ensures)
+    ∙ ap (λ (ws : List ℕ). with_one ws 0) (c.clear.ensures ∙ ap (λ (w : ℕ). over (replicate w 0) c.args.words.now) c.words_for-count.ensures)
 
 start-levels : (c : After-slice_known-4-1) → Levels c.args.pool.now c.args.n c.put_one.new.words c.args.queue.now
 start-levels c =

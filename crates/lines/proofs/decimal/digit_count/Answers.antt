@@ -1,16 +1,14 @@
-use mathlib.Core.Path.{ap}
+-- `lines::decimal::digit_count` meets its contract: so many digits has a number from this power of ten on. Assumes nothing.
+use mathlib.Core.Path.{sym, ◌∙◌}
 use native.Mathlib.Omega.{arith}
-use lib.ListN.{length}
-use Rattle.lines.proofs.Laws.Decimal.{decimal-small, length-decimal-some, length-decimal-large, length-decimal-most}
+use native.Mathlib.Nat.{pow-suc, pow-le-pow_right}
+use native.Mathlib.Numerals.{add-one}
+use lib.Dec.{lit<}
+use Rattle.lines.proofs.Laws.Decimal.{length-decimal-is}
 use Rattle.lines.proofs.decimal.digit_count.Goals as goal
 
-pub overflow_add-count : goal.overflow_add-count
-overflow_add-count c =
-    let number = c.args.number in
-    omega (arith, length-decimal-some c.loop-rest.rest, length-decimal-most number c.ranges.number.fits)
-
-pub loop-rest-preserved : goal.loop-rest-preserved
-loop-rest-preserved c = omega (arith, length-decimal-large c.loop-rest.rest c.loop-rest-test.true)
-
 pub returns : goal.returns
-returns c = omega (arith, ap length (decimal-small c.loop-rest.rest c.loop-rest-test.false))
+returns c =
+    let power = c.ilog10.result in
+    add-one power
+    ∙ sym (length-decimal-is power c.args.number (omega (arith, pow-suc 10 power, c.max.ensures)) (λ h. omega (arith, pow-le-pow_right {n = 10} (lit< tt) {i = 1} {j = power} h, c.max.ensures)))

@@ -1,54 +1,37 @@
-use mathlib.Core.Path.{◌≡◌, refl, sym, ◌∙◌}
+use mathlib.Core.Path.{◌≡◌, ◌∙◌}
 use mathlib.Core.List.{List, ◌∷◌, ◌++◌, append_assoc}
 use Prim.Native.Nat.{ℕ, zero, suc, ◌+◌, ◌-◌, ◌/◌, ◌%◌, ◌≤◌, ◌<◌}
-use native.Mathlib.Nat.{add-zero}
 use native.Mathlib.Omega.{arith}
-use lib.ListN.{length, take, drop, set, length-set, take-append-drop}
-use lib.Seq.{drop-cons, drop-drop, take-set-le, drop-set-lt, get_or-set_same}
-use Rattle.keymap.specs.Buffers.{over}
+use lib.ListN.{length, drop, set, length-set}
+use lib.Seq.{drop-cons, drop-set-lt, get_or-set_same}
 use Rattle.lines.specs.Decimal.{zero_digit, decimal}
 use Rattle.lines.proofs.Laws.Decimal.{final_digits, final_digits-all}
-use Rattle.lines.proofs.decimal.put_decimal.Invariants.{ended}
 use Rattle.lines.proofs.decimal.put_decimal.Goals as goal
 
-turn : (out : List ℕ) (at left rest : ℕ) → 0 < left → at + left ≤ length out
-    → ended (set out (at + (left - 1)) (zero_digit + rest % 10)) at (left - 1) (rest / 10) ≡ ended out at left rest
+turn : (out : List ℕ) (left rest : ℕ) → 0 < left → left ≤ length out
+    → final_digits (left - 1) (rest / 10) ++ drop (left - 1) (set out (left - 1) (zero_digit + rest % 10)) ≡ final_digits left rest ++ drop left out
 unfolding final_digits
-turn out at zero rest h l = absurd (omega arith)
-turn out at (suc k) rest h l =
+turn out zero rest h l = absurd (omega arith)
+turn out (suc k) rest h l =
     let d : ℕ = zero_digit + rest % 10 in
-    let i : ℕ = at + k in
     let one_less : suc k - 1 ≡ k = omega arith in
-    let after : at + suc k ≡ suc i = omega arith in
-    let inside : i < length out = omega arith in
-    let still : i < length (set out i d) = omega (arith, length-set out i d) in
-    let from : drop i (set out i d) ≡ d ∷ drop (suc i) out =
-    drop-cons (set out i d) i 0 still ∙ rw (get_or-set_same out i d 0 inside, drop-set-lt (suc i) out i d (omega arith)) in
-    let before : take at (set out i d) ≡ take at out = take-set-le at out i d (omega arith) in
-    rw (one_less, after, before, from, append_assoc)
+    let still : k < length (set out k d) = omega (arith, length-set out k d) in
+    let from : drop k (set out k d) ≡ d ∷ drop (suc k) out =
+    drop-cons (set out k d) k 0 still ∙ rw (get_or-set_same out k d 0 (omega arith), drop-set-lt (suc k) out k d (omega arith)) in
+    rw (one_less, from, append_assoc)
 
-done : (out : List ℕ) (at left rest : ℕ) → left ≡ 0 → out ≡ ended out at left rest
-unfolding final_digits
-done out at left rest e = rw (e, add-zero) (sym (take-append-drop at out))
-
-whole : (out : List ℕ) (at n k : ℕ) → k ≡ length (decimal n) → ended out at k n ≡ take at out ++ over (decimal n) (drop at out)
-unfolding over
-whole out at n k e = rw (e, final_digits-all n, drop-drop)
-
-pub loop-left-init : goal.loop-left-init
-loop-left-init c = (omega arith, refl, refl)
-
-pub loop-left-preserved : goal.loop-left-preserved
-loop-left-preserved c =
-    let a = c.args in
-    let out : List ℕ = c.loop-left.out in (
-      omega arith,
-      length-set out (a.at + (c.loop-left.left - 1)) (zero_digit + c.loop-left.rest % 10) ∙ c.loop-left.invariant.1,
-      turn out a.at c.loop-left.left c.loop-left.rest (omega arith) (omega arith) ∙ c.loop-left.invariant.2,
+pub loop-i-preserved : goal.loop-i-preserved
+loop-i-preserved c =
+    let i = c.loop-i in (
+      length-set i.out (i.i - 1) (zero_digit + i.rest % 10) ∙ i.invariant.0,
+      turn i.out i.i i.rest (omega arith) (omega arith) ∙ i.invariant.1,
     )
 
+-- no digit is left to be put
+put : (out : List ℕ) (left rest n k : ℕ) → left ≤ 0 → k ≡ length (decimal n) → final_digits left rest ++ drop left out ≡ final_digits k n → out ≡ decimal n
+unfolding final_digits
+put out zero rest n k h e q = q ∙ rw e (final_digits-all n)
+put out (suc left) rest n k h e q = absurd (omega arith)
+
 pub returns : goal.returns
-returns c =
-    let a = c.args in
-    done c.loop-left.out a.at c.loop-left.left c.loop-left.rest (omega arith) ∙ c.loop-left.invariant.2
-    ∙ whole a.out.now a.at a.number a.count c.requires.counted
+returns c = put c.loop-i.out c.loop-i.i c.loop-i.rest c.args.number _ c.loop-i-test.false c.requires c.loop-i.invariant.1

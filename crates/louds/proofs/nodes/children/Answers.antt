@@ -8,7 +8,7 @@ use Rattle.louds.specs.Rank.{gap}
 use Rattle.louds.specs.Select.{zero_at}
 use Rattle.louds.proofs.Laws.Rank.{gap-small, ones-zeros}
 use Rattle.louds.proofs.Laws.Select.{Stands, rank-kth, kth-next}
-use Rattle.louds.proofs.Laws.Nodes.{Stops, stops, children-none, children-at}
+use Rattle.louds.proofs.Laws.Nodes.{stops, children-none, children-at}
 use Rattle.louds.specs.Nodes.{Run}
 use Rattle.louds.proofs.nodes.children.Goals.{After-unwrap_or-next, In_ok-start}
 use Rattle.louds.proofs.nodes.children.Goals as goal

@@ -1,4 +1,4 @@
-use Rattle.std.proofs.Common.{◌≡◌, ℕ, ◌+◌, ◌*◌, ◌/◌, ◌%◌, ◌^◌, sym, ap, ◌∙◌, ap₂, mod-lt, arith, lit<}
+use Rattle.std.proofs.Common.{◌≡◌, ℕ, ◌+◌, ◌*◌, ◌%◌, ◌^◌, sym, ap, ◌∙◌, ap₂, mod-lt, arith, lit<}
 use Rattle.std.proofs.lemmas.List.{length-take, get_or-take}
 use lib.Count.{ones}
 use Rattle.keymap.specs.Bits.{bit}

@@ -1,6 +1,6 @@
 -- `louds::select::among_zeros` meets its contract: where all bits are zeros the k-th stands k - 1 places on. Assumes nothing.
-use Rattle.std.proofs.Common.{◌≡◌, ℕ, sym, ap, ◌∙◌, arith}
-use Rattle.louds.specs.Select.{bit_from, kth, onward, marks}
+use Rattle.std.proofs.Common.{sym, ap, ◌∙◌, arith}
+use Rattle.louds.specs.Select.{kth, onward, marks}
 use Rattle.louds.proofs.Laws.Select.{kth-zero}
 use Rattle.louds.proofs.Laws.Passing.{zeros-at, zeros-short, no-zeros}
 use Rattle.louds.proofs.select.among_zeros.Goals.{then-v-ne0-via-then-v-ne0, then-v-ne0-via-else-v-ne0+then-k-eq0, then-v-ne0-via-else-v-ne0+else-k-eq0+then-len-from, then-v-ne0-via-else-v-ne0+else-k-eq0+else-len-from+then-len-from-2}

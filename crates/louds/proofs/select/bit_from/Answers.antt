@@ -41,9 +41,6 @@ returns-then-len-w c =
     let l = c.loop-count in
     passed-short a.words.now a.len a.v a.from a.k l.w l.x l.left l.invariant.0 c.if-len-w.true (omega (arith, l.invariant.1, c.loop-count-test.true))
 
-pub overflow_mul-w : goal.overflow_mul-w
-overflow_mul-w c = omega (arith, c.if-len-w.false)
-
 pub returns-then-words-w-2 : goal.returns-then-words-w-2
 returns-then-words-w-2 c =
     let a = c.args in
@@ -57,18 +54,6 @@ loop-count-preserved c =
       passed-next a.words.now a.len a.v a.from a.k l.w l.x l.left l.invariant.0 c.marks_in-x.result (l.left - l.count) c.if-len-w.false (some (goal.at.loop-count-preserved c).In-loop-count) (fewer (goal.at.loop-count-preserved c).In-loop-count) c.marks_in-x.ensures,
       c.ones_in-count-in-loop-count.ensures,
     )
-
-pub overflow_mul-start : goal.overflow_mul-start
-overflow_mul-start c = omega (arith, c.loop-count.invariant.0.inside)
-
-pub nth_one-p-requires : goal.nth_one-p-requires
-nth_one-p-requires c = let l = c.loop-count in (l.invariant.0.some, omega (arith, l.invariant.1, c.loop-count-test.false))
-
-pub overflow_sub-len : goal.overflow_sub-len
-overflow_sub-len c = omega (arith, c.loop-count.invariant.0.inside)
-
-pub overflow_add-result : goal.overflow_add-result
-overflow_add-result c = omega (arith, c.loop-count.invariant.0.inside)
 
 pub returns-then-p-len : goal.returns-then-p-len
 returns-then-p-len c =

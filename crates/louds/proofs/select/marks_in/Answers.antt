@@ -1,26 +1,26 @@
 -- `louds::select::marks_in` meets its contract: zeros are marked by the complement of a word, ones by itself. Assumes nothing.
-use Rattle.std.proofs.Common.{ℕ, sym, ap, ◌∙◌}
+use Rattle.std.proofs.Common.{ℕ, sym, ap, ◌∙◌, arith}
 use Rattle.keymap.specs.Bits.{bit}
 use Rattle.louds.specs.Digits.{complement}
 use Rattle.louds.specs.Select.{marks}
 use Rattle.louds.proofs.Laws.MarkWords.{mark_word, zeros-marked, ones-marked, none-marked}
 use Rattle.louds.proofs.select.marks_in.Goals as goal
 
-pub returns-then-v-eq0 : goal.returns-then-v-eq0
-returns-then-v-eq0 c =
+pub returns-in-0 : goal.returns-in-0
+returns-in-0 c =
     let a = c.args in
     let ws = a.words.now in
     let word = c.word_at-word.ensures in
-    ap complement word ∙ zeros-marked ws a.w (c.type_inv.words a.w).fits ∙ ap (λ (v : ℕ). mark_word (marks (bit ws) v) a.w) (sym c.if-v-eq0.true)
+    ap complement word ∙ zeros-marked ws a.w (c.type_inv.words a.w).fits ∙ ap (λ (v : ℕ). mark_word (marks (bit ws) v) a.w) (sym c.in-0.is)
 
-pub returns-then-v-eq1 : goal.returns-then-v-eq1
-returns-then-v-eq1 c =
+pub returns-in-1 : goal.returns-in-1
+returns-in-1 c =
     let a = c.args in
     let ws = a.words.now in
     let word = c.word_at-word.ensures in
-    word ∙ ones-marked ws a.w (c.type_inv.words a.w).fits ∙ ap (λ (v : ℕ). mark_word (marks (bit ws) v) a.w) (sym c.if-v-eq1.true)
+    word ∙ ones-marked ws a.w (c.type_inv.words a.w).fits ∙ ap (λ (v : ℕ). mark_word (marks (bit ws) v) a.w) (sym c.in-1.is)
 
-pub returns : goal.returns
-returns c =
+pub returns-in_default : goal.returns-in_default
+returns-in_default c =
     let a = c.args in
-    none-marked a.words.now a.w a.v c.if-v-eq0.false c.if-v-eq1.false
+    none-marked a.words.now a.w a.v (λ e. omega (arith, e)) (λ e. omega (arith, e))

@@ -22,12 +22,6 @@ module _ (c : After-ones_by_byte-sums) where
 pub overflow_add-reached : goal.overflow_add-reached
 overflow_add-reached c = omega (arith, (fit c).0)
 
-pub overflow_mul-reached : goal.overflow_mul-reached
-overflow_mul-reached c = omega (arith, (fit c).1)
-
-pub overflow_sub-reached : goal.overflow_sub-reached
-overflow_sub-reached c = (fit c).2
-
 -- the byte that has the j-th one
 byte : (c : After-lowest_one-start)
     → ByteFound c.args.word c.args.j c.ones_by_byte-sums.result c.lowest_one-start.result
@@ -36,12 +30,6 @@ byte c =
 
 pub overflow_sub-start : goal.overflow_sub-start
 overflow_sub-start c = (byte c).least
-
-pub overflow_shr-below : goal.overflow_shr-below
-overflow_shr-below c = (byte c).near
-
-pub overflow_shr-word : goal.overflow_shr-word
-overflow_shr-word c = (byte c).near
 
 pub overflow_sub-j : goal.overflow_sub-j
 overflow_sub-j c = omega (arith, (byte c).below, (byte c).fewer)

@@ -1,8 +1,8 @@
-use Rattle.std.proofs.Common.{◌≡◌, ℕ, ◌+◌, ◌-◌, ◌*◌, ◌/◌, ◌%◌, ◌^◌, ◌<◌, get_or, sym, refl, ◌∙◌, subst, arith}
+use Rattle.std.proofs.Common.{◌+◌, ◌-◌, ◌<◌, get_or, sym, refl, arith}
 use lib.Bits.{bit_and}
 use Rattle.keymap.specs.Bits.{bit, sum_below}
 use Rattle.louds.proofs.Laws.Select.{kth-none}
-use Rattle.louds.proofs.Laws.Descending.{Descended, descended-first, descended-beyond, descended-none, descended-fits, descended-next, descended-near, descended-at}
+use Rattle.louds.proofs.Laws.Descending.{descended-first, descended-beyond, descended-none, descended-fits, descended-next, descended-near, descended-at}
 use Rattle.louds.proofs.select.one_back.Goals.{then-own-words, else-own-words}
 use Rattle.louds.proofs.select.one_back.Goals as goal
 

@@ -1,23 +1,10 @@
 use Rattle.std.proofs.Common.{◌≡◌, ℕ, ◌+◌, ◌-◌, ◌*◌, ◌/◌, ◌%◌, ◌^◌, sym, ap, ◌∙◌, arith}
 use lib.Bits.{bit_and}
 use Rattle.keymap.specs.Limits.{word_bits}
-use Rattle.louds.specs.Digits.{complement}
-use Rattle.louds.specs.Taking.{low_bits, top_bits, cleared, fewer_by}
-use Rattle.louds.proofs.Laws.Taking.{cleared-none, cleared-next, cleared-zero, ones_from-is, start-inside, trailing-most}
+use Rattle.louds.specs.Taking.{low_bits, cleared, fewer_by}
+use Rattle.louds.proofs.Laws.Taking.{cleared-none, cleared-next, cleared-zero, ones_from-is}
 use Rattle.louds.proofs.select.ones_from.Goals.{After-wrapping_add_u64-fewer, After-lowest_one}
 use Rattle.louds.proofs.select.ones_from.Goals as goal
-
-pub overflow_add-start : goal.overflow_add-start
-overflow_add-start c = omega (arith, c.lowest_one.ensures, trailing-most word_bits (bit_and (complement c.wrapping_add_u64-fewer.result) top_bits))
-
-pub overflow_shr-over : goal.overflow_shr-over
-overflow_shr-over c = start-inside (c.lowest_one.result + 56)
-
-pub overflow_shr-rest : goal.overflow_shr-rest
-overflow_shr-rest c = start-inside (c.lowest_one.result + 56)
-
-pub overflow_shl-rest : goal.overflow_shl-rest
-overflow_shl-rest c = start-inside (c.lowest_one.result + 56)
 
 -- both sums wrap as the definition's
 fewer-is : (c : After-wrapping_add_u64-fewer) → c.wrapping_add_u64-fewer.result ≡ fewer_by c.args.sums c.args.j

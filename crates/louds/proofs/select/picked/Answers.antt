@@ -18,15 +18,6 @@ returns-then-left-eq1 c =
     let l = c.loop-rest in
     ap Some c.lowest_one.ensures ∙ picking-last c.args.word c.args.j c.ranges.word.fits l.left l.rest l.invariant c.loop-rest-test.true c.if-left-eq1.true
 
-pub overflow_sub-rest : goal.overflow_sub-rest
-overflow_sub-rest c = omega (arith, c.loop-rest-test.true)
-
-pub overflow_sub-left : goal.overflow_sub-left
-overflow_sub-left c = c.loop-rest.invariant.some
-
-pub loop-rest-smaller : goal.loop-rest-smaller
-loop-rest-smaller c = omega (arith, c.loop-rest.invariant.some)
-
 pub loop-rest-preserved : goal.loop-rest-preserved
 loop-rest-preserved c =
     let l = c.loop-rest in

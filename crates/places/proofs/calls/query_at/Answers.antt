@@ -1,41 +1,31 @@
 -- `places::calls::query_at` meets its contract: 6 of an image that no map has, then 7 of a number that is no node's, else what the walk on numbers answers. Assumes nothing.
 use mathlib.Core.Path.{◌≡◌, sym, ◌∙◌}
-use mathlib.Core.Bool.{Bool, true}
-use lib.ListN.{length}
+use mathlib.Core.Bool.{true}
 use Rattle.keymap.specs.Paths.{is_node}
 use Rattle.keymap.specs.Decode.{image_map}
 use Rattle.image.specs.AcceptTest.{image_test}
 use Rattle.image.specs.Meaning.{image_in, MapImage}
 use Rattle.image.proofs.Laws.Meaning.{tested-map_image}
-use Rattle.walks.specs.Rule.{is_node_of}
-use Rattle.walks.proofs.Laws.MapImage.{is_node-is}
-use Rattle.places.proofs.Laws.Incremental.{promise-refused, promise-strange, query-promise}
+use Rattle.places.proofs.Laws.Incremental.{checked-ok, checked-err, promise-refused, query-promise}
 use Rattle.places.proofs.Laws.MapMoves.{query-kept}
-use Rattle.places.proofs.calls.query_at.Goals.{Else-not-is_image}
+use Rattle.places.proofs.calls.query_at.Goals.{In-Ok}
 use Rattle.places.proofs.calls.query_at.Goals as goal
 
-pub returns-then-not-is_image : goal.returns-then-not-is_image
-returns-then-not-is_image c =
-    query-promise (image_in c.args.labels c.args.values c.args.words) c.args.node c.args.label _ _ (promise-refused (image_in c.args.labels c.args.values c.args.words) c.args.node _ _ (sym c.is_image.ensures ∙ c.if-not-is_image.true))
+-- past the tests the image is a map's, and the number one of its nodes
+tested : (c : In-Ok) → (image_test (image_in c.args.labels c.args.values c.args.words) ≡ true) × (is_node (image_map (image_in c.args.labels c.args.values c.args.words)) c.args.node ≡ true)
+tested c = checked-ok _ _ _ (sym c.check_place.ensures ∙ c.in-Ok.is)
 
--- past the first test the image is a map's
-tested : (c : Else-not-is_image) → image_test (image_in c.args.labels c.args.values c.args.words) ≡ true
-tested c = sym c.is_image.ensures ∙ c.if-not-is_image.false
-
-whole : (c : Else-not-is_image) → MapImage (image_in c.args.labels c.args.values c.args.words)
+whole : (c : In-Ok) → MapImage (image_in c.args.labels c.args.values c.args.words)
 whole c =
     tested-map_image (image_in c.args.labels c.args.values c.args.words)
     (record { words-wide = λ w. (c.type_inv.words w).fits; values-wide = λ e. (c.type_inv.values e).fits })
-    (tested c)
+    (tested c).0
 
--- what the test of the number says of the map
-node-told : (c : Else-not-is_image) (r t : Bool) → r ≡ is_node_of (length c.args.labels.now) c.args.node → r ≡ t → is_node (image_map (image_in c.args.labels c.args.values c.args.words)) c.args.node ≡ t
-node-told c r t says e = sym (is_node-is (image_in c.args.labels c.args.values c.args.words) (whole c) c.args.node) ∙ sym says ∙ e
+pub returns-in-Ok : goal.returns-in-Ok
+returns-in-Ok c =
+    let at = (goal.at.returns-in-Ok c).In-Ok in
+    rw c.step_by.ensures (query-kept (image_in c.args.labels c.args.values c.args.words) (whole at) (tested at).0 c.args.node (tested at).1 c.args.label)
 
-pub returns-then-not-is_node : goal.returns-then-not-is_node
-returns-then-not-is_node c =
-    query-promise (image_in c.args.labels c.args.values c.args.words) c.args.node c.args.label _ _ (promise-strange (image_in c.args.labels c.args.values c.args.words) c.args.node _ _ (tested (goal.at.returns-then-not-is_node c).Else-not-is_image) (node-told (goal.at.returns-then-not-is_node c).Else-not-is_image _ _ c.is_node.ensures c.if-not-is_node.true))
-
-pub returns : goal.returns
-returns c =
-    rw c.step_by.ensures (query-kept (image_in c.args.labels c.args.values c.args.words) (whole (goal.at.returns c).Else-not-is_image) (tested (goal.at.returns c).Else-not-is_image) c.args.node (node-told (goal.at.returns c).Else-not-is_image _ _ c.is_node.ensures c.if-not-is_node.false) c.args.label)
+pub returns-in-Err : goal.returns-in-Err
+returns-in-Err c =
+    query-promise (image_in c.args.labels c.args.values c.args.words) c.args.node c.args.label _ _ (promise-refused (image_in c.args.labels c.args.values c.args.words) c.args.node _ _ _ (checked-err _ _ _ (sym c.check_place.ensures ∙ c.in-Err.is)))

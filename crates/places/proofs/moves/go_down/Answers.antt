@@ -1,5 +1,6 @@
 -- `places::moves::go_down` meets its contract: the children that louds answers are those of the node's stand, the other calls are the definition's,
 -- and a glide has no more steps than there are nodes. Assumes nothing.
+use Rattle.std.specs.Prelude.{Ok}
 use mathlib.Core.Path.{◌≡◌, sym, ap, ◌∙◌}
 use Prim.Native.Nat.{◌+◌}
 use native.Mathlib.Omega.{arith}
@@ -15,7 +16,7 @@ use Rattle.walks.specs.Stands.{kid_from}
 use Rattle.walks.specs.Glide.{only_kid, glided_from}
 use Rattle.places.specs.Moves.{stand_in, count_from}
 use Rattle.places.proofs.Laws.Moves.{children-lost, children-count, only-run, goto-leaf, goto-several, goto-key, goto-parting, glide-few}
-use Rattle.places.proofs.moves.go_down.Goals.{Else-count-gt1, In-Some}
+use Rattle.places.proofs.moves.go_down.Goals.{Else-count-gt1, In-Some, in-Some-value_at, in-None}
 use Rattle.places.proofs.moves.go_down.Goals as goal
 
 pub returns-in_default : goal.returns-in_default
@@ -25,7 +26,7 @@ returns-in_default c =
 
 -- the children, of the node
 run : (c : In-Some)
-    → children_of (bit c.args.words.now) (bits_for (length c.args.labels.now)) c.args.node ≡ Run c.in-Some.first c.in-Some.count
+    → children_of (bit c.args.words.now) (bits_for (length c.args.labels.now)) c.args.node ≡ Run c.in-Some.field-0.first c.in-Some.field-0.count
 run c = sym c.children.ensures ∙ c.in-Some.is
 
 pub returns-then-count-eq0 : goal.returns-then-count-eq0
@@ -44,7 +45,7 @@ overflow_add-from c = omega (arith, (children-count (image_in c.args.labels c.ar
 
 -- the stand at it
 child : (c : Else-count-gt1) (s : Stand)
-    → s ≡ kid_from (bit c.args.words.now) (bits_for (length c.args.labels.now)) c.args.node (c.args.node + c.in-Some.first) c.in-Some.first
+    → s ≡ kid_from (bit c.args.words.now) (bits_for (length c.args.labels.now)) c.args.node (c.args.node + c.in-Some.field-0.first) c.in-Some.field-0.first
     → s ≡ only_kid (bit c.args.words.now) (bits_for (length c.args.labels.now)) (stand_in (image_in c.args.labels c.args.values c.args.words) c.args.node)
 child c s says =
     let i = image_in c.args.labels c.args.values c.args.words in
@@ -59,7 +60,7 @@ gone c =
     glided_from c.args.labels.now c.args.values.now b len (only_kid b len (stand_in (image_in c.args.labels c.args.values c.args.words) c.args.node))
 
 glided : (c : Else-count-gt1) (s : Stand) (g : Glided)
-    → s ≡ kid_from (bit c.args.words.now) (bits_for (length c.args.labels.now)) c.args.node (c.args.node + c.in-Some.first) c.in-Some.first
+    → s ≡ kid_from (bit c.args.words.now) (bits_for (length c.args.labels.now)) c.args.node (c.args.node + c.in-Some.field-0.first) c.in-Some.field-0.first
     → g ≡ glided_from c.args.labels.now c.args.values.now (bit c.args.words.now) (bits_for (length c.args.labels.now)) s
     → g ≡ gone c
 glided c s g stands ends =
@@ -72,10 +73,16 @@ overflow_add-distance c =
     let few = glide-few a.labels.now a.values.now (bit a.words.now) (bits_for (length a.labels.now)) c.kid_at-c.result in
     omega (arith, ap (λ (g : Glided). g.steps) c.glide-g.ensures, few, c.well_formed.0.1)
 
-pub returns-in-Some : goal.returns-in-Some
-returns-in-Some c =
-    goto-key (image_in c.args.labels c.args.values c.args.words) c.args.node (one (goal.at.returns-in-Some c).Else-count-gt1) _ (glided (goal.at.returns-in-Some c).Else-count-gt1 _ _ c.kid_at-c.ensures c.glide-g.ensures) _ c.place_number.ensures _ (sym c.value_at.ensures ∙ c.in-Some.is)
-
-pub returns-in-None : goal.returns-in-None
-returns-in-None c =
-    goto-parting (image_in c.args.labels c.args.values c.args.words) c.args.node (one (goal.at.returns-in-None c).Else-count-gt1) _ (glided (goal.at.returns-in-None c).Else-count-gt1 _ _ c.kid_at-c.ensures c.glide-g.ensures) _ c.place_number-in-None.ensures (sym c.value_at.ensures ∙ c.in-None.is)
+pub returns : goal.returns
+returns c =
+    let i = (image_in c.args.labels c.args.values c.args.words) in
+    let at = (goal.at.returns c).Else-count-gt1 in
+    let ends = glided at _ _ c.kid_at-c.ensures c.glide-g.ensures in
+    elim c.match-value_at.branch [
+      | in-Some-value_at w ↦
+          (λ x. record { answer = Ok (w.answer-is x); node = c.place_number.result })
+          ∙ goto-key i c.args.node (one at) _ ends _ c.place_number.ensures _ (sym c.value_at.ensures ∙ w.in-Some-value_at.is)
+      | in-None w ↦
+          (λ x. record { answer = Ok (w.answer-is x); node = c.place_number.result })
+          ∙ goto-parting i c.args.node (one at) _ ends _ c.place_number.ensures (sym c.value_at.ensures ∙ w.in-None.is)
+    ]

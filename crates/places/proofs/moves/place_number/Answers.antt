@@ -1,11 +1,16 @@
 -- `places::moves::place_number` meets its contract. Assumes nothing.
-use mathlib.Core.Path.{sym}
+use mathlib.Core.Path.{◌≡◌, sym, ◌∙◌}
+use Prim.Native.Nat.{ℕ, ◌<◌}
 use native.Mathlib.Omega.{arith}
+use Rattle.std.specs.Prelude.{Result, Ok, Err}
+use Rattle.std.specs.Result.{OkIff, result_unwrap_or}
+use Rattle.places.specs.Moves.{place_number}
 use Rattle.places.proofs.Laws.Moves.{number-large, number_small}
 use Rattle.places.proofs.moves.place_number.Goals as goal
 
-pub returns-then-node-gt4294967295 : goal.returns-then-node-gt4294967295
-returns-then-node-gt4294967295 c = sym (number-large _ (omega arith))
+tried : {E : Type 0} (n : ℕ) (r : Result ℕ E) → OkIff r (n < 4294967296) n → result_unwrap_or r 0 ≡ place_number n
+tried n (Ok k) told = told.1 ∙ sym (number_small n (omega (arith, told.0)))
+tried n (Err e) told = sym (number-large n (omega (arith, told)))
 
 pub returns : goal.returns
-returns c = sym (number_small _ (omega arith))
+returns c = c.unwrap_or.ensures ∙ tried c.args.node c.try_from.result c.try_from.ensures

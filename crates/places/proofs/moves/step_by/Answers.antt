@@ -1,5 +1,5 @@
 -- `places::moves::step_by` meets its contract: a step down goes where the rule goes. Assumes nothing.
-use Rattle.std.specs.Prelude.{Option}
+use Rattle.std.specs.Prelude.{Option, Some, Ok}
 use mathlib.Core.Path.{◌≡◌, sym, ap, ◌∙◌}
 use lib.ListN.{length}
 use Rattle.keymap.specs.Bits.{bit}
@@ -10,7 +10,6 @@ use Rattle.walks.specs.declared.stands.Stand.{Stand}
 use Rattle.walks.specs.Rule.{child_by}
 use Rattle.walks.specs.Stands.{down_from, reached_at}
 use Rattle.walks.proofs.Laws.Stands.{down_rule, reached_at-to, reached_at-lost}
-use Rattle.places.specs.declared.answers.Queried.TheVariants.{Found}
 use Rattle.places.specs.Moves.{answer_by}
 use Rattle.places.proofs.Laws.Moves.{query-missed, query-found}
 use Rattle.places.proofs.moves.step_by.Goals.{After-down}
@@ -41,4 +40,4 @@ returns c =
     let there = reached_at-to (bit a.words.now) (bits_for (length a.labels.now)) _ _ (told (goal.at.returns c).After-down _ c.in-Some.is) in
     let says = c.answer_at.ensures ∙ ap (answer_by (image_in c.args.labels c.args.values c.args.words)) there.knows in
     let number = c.place_number.ensures in
-    (λ x. record { answer = Found (says x); node = number x }) ∙ sym (query-found (image_in c.args.labels c.args.values c.args.words) a.node a.label _ there.node)
+    (λ x. record { answer = Ok (Some (says x)); node = number x }) ∙ sym (query-found (image_in c.args.labels c.args.values c.args.words) a.node a.label _ there.node)

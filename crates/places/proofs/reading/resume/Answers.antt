@@ -1,37 +1,35 @@
 -- `places::reading::resume` meets its contract: 6 of an image that no map has, then 7 of a number that is no node's, else the place. Assumes nothing.
-use mathlib.Core.Path.{◌≡◌, sym, ◌∙◌}
-use mathlib.Core.Bool.{Bool, true}
-use lib.ListN.{length}
+use mathlib.Core.Path.{◌≡◌, sym, ap, ◌∙◌}
+use mathlib.Core.Bool.{true}
+use Rattle.std.specs.Prelude.{Err}
+use Rattle.std.proofs.lemmas.Result.{err_from_is_err_and}
+use Rattle.keymap.specs.declared.refusals.Refusal.{Refusal}
 use Rattle.keymap.specs.Paths.{is_node}
 use Rattle.keymap.specs.Decode.{image_map}
 use Rattle.image.specs.AcceptTest.{image_test}
-use Rattle.image.specs.Meaning.{image_in, MapImage}
-use Rattle.image.proofs.Laws.Meaning.{tested-map_image}
-use Rattle.walks.specs.Rule.{is_node_of}
-use Rattle.walks.proofs.Laws.MapImage.{is_node-is}
-use Rattle.places.proofs.Laws.Places.{on_place-refused, on_place-strange, on_place-kept, resume-is}
-use Rattle.places.proofs.reading.resume.Goals.{Else-not-is_image}
+use Rattle.image.specs.Meaning.{image_in}
+use Rattle.places.specs.Places.{said_resumed}
+use Rattle.places.proofs.Laws.Incremental.{Refused, checked-ok, checked-err}
+use Rattle.places.proofs.Laws.Places.{on_place-kept, resume-is}
+use Rattle.places.proofs.reading.resume.Goals.{In_ok-check_place, After-from_residual}
 use Rattle.places.proofs.reading.resume.Goals as goal
 
-pub returns-then-not-is_image : goal.returns-then-not-is_image
-returns-then-not-is_image c = record { answer = sym (resume-is (image_in c.args.labels c.args.values c.args.words) c.args.node ∙ on_place-refused (image_in c.args.labels c.args.values c.args.words) c.args.node _ (sym c.is_image.ensures ∙ c.if-not-is_image.true)) }
+-- where the tests fail, that is passed on
+refused : (c : After-from_residual) → (r : Refusal) × (c.from_residual.result ≡ Err r) × Refused (image_in c.args.labels c.args.values c.args.words) c.args.node r
+refused c =
+    let (r, is, same) = err_from_is_err_and c.from_residual.result c.from_residual.ensures.1 in
+    (r, is, checked-err _ _ _ (sym c.check_place.ensures ∙ c.in_err-check_place.was ∙ ap Err (sym same)))
 
--- past the first test the image is a map's
-tested : (c : Else-not-is_image) → image_test (image_in c.args.labels c.args.values c.args.words) ≡ true
-tested c = sym c.is_image.ensures ∙ c.if-not-is_image.false
+pub returns-in_err-check_place : goal.returns-in_err-check_place
+returns-in_err-check_place c =
+    let (r, is, stays) = refused c in
+    record { answer = ap said_resumed is ∙ sym (resume-is (image_in c.args.labels c.args.values c.args.words) c.args.node ∙ stays.says _) }
 
-whole : (c : Else-not-is_image) → MapImage (image_in c.args.labels c.args.values c.args.words)
-whole c =
-    tested-map_image (image_in c.args.labels c.args.values c.args.words)
-    (record { words-wide = λ w. (c.type_inv.words w).fits; values-wide = λ e. (c.type_inv.values e).fits })
-    (tested c)
-
--- what the test of the number says of the map
-node-told : (c : Else-not-is_image) (r t : Bool) → r ≡ is_node_of (length c.args.labels.now) c.args.node → r ≡ t → is_node (image_map (image_in c.args.labels c.args.values c.args.words)) c.args.node ≡ t
-node-told c r t says e = sym (is_node-is (image_in c.args.labels c.args.values c.args.words) (whole c) c.args.node) ∙ sym says ∙ e
-
-pub returns-then-not-is_node : goal.returns-then-not-is_node
-returns-then-not-is_node c = record { answer = sym (resume-is (image_in c.args.labels c.args.values c.args.words) c.args.node ∙ on_place-strange (image_in c.args.labels c.args.values c.args.words) c.args.node _ (tested (goal.at.returns-then-not-is_node c).Else-not-is_image) (node-told (goal.at.returns-then-not-is_node c).Else-not-is_image _ _ c.is_node.ensures c.if-not-is_node.true)) }
+-- past the tests the number is one of the map's nodes
+tested : (c : In_ok-check_place) → (image_test (image_in c.args.labels c.args.values c.args.words) ≡ true) × (is_node (image_map (image_in c.args.labels c.args.values c.args.words)) c.args.node ≡ true)
+tested c = checked-ok _ _ _ (sym c.check_place.ensures ∙ c.in_ok-check_place.was)
 
 pub returns : goal.returns
-returns c = record { answer = sym (resume-is (image_in c.args.labels c.args.values c.args.words) c.args.node ∙ on_place-kept (image_in c.args.labels c.args.values c.args.words) c.args.node _ (tested (goal.at.returns c).Else-not-is_image) (node-told (goal.at.returns c).Else-not-is_image _ _ c.is_node.ensures c.if-not-is_node.false)) }
+returns c =
+    let (fits, inside) = tested (goal.at.returns c).In_ok-check_place in
+    record { answer = sym (resume-is (image_in c.args.labels c.args.values c.args.words) c.args.node ∙ on_place-kept (image_in c.args.labels c.args.values c.args.words) c.args.node _ fits inside) }

@@ -1,59 +1,49 @@
 -- `places::reading::value` meets its contract: 6 of an image that no map has, then 7 of a number that is no node's, else what the node holds. Assumes nothing.
 use mathlib.Core.Path.{◌≡◌, sym, ap, ◌∙◌}
-use mathlib.Core.Bool.{Bool, true}
-use Prim.Native.Nat.{ℕ}
-use Rattle.std.specs.Prelude.{Option}
-use lib.ListN.{length}
-use Rattle.keymap.specs.Answers.{says_value}
+use mathlib.Core.Bool.{true}
+use Rattle.std.specs.Prelude.{Err}
+use Rattle.std.proofs.lemmas.Result.{err_from_is_err_and}
+use Rattle.keymap.specs.declared.refusals.Refusal.{Refusal}
 use Rattle.keymap.specs.Paths.{is_node}
 use Rattle.keymap.specs.Decode.{image_map}
 use Rattle.keymap.proofs.Laws.Paths.{is_node-iff}
+use Rattle.keymap.specs.Answers.{says_value}
 use Rattle.image.specs.AcceptTest.{image_test}
 use Rattle.image.specs.Meaning.{image_in, MapImage}
 use Rattle.image.proofs.Laws.Meaning.{tested-map_image}
 use Rattle.walks.proofs.Laws.MapWalk.{node-value}
-use Rattle.walks.specs.Rule.{is_node_of, value_of_node}
-use Rattle.walks.proofs.Laws.MapImage.{is_node-is}
-use Rattle.places.specs.Places.{value_says}
-use Rattle.places.proofs.Laws.Places.{on_place-refused, on_place-strange, on_place-kept, value-is}
-use Rattle.places.proofs.reading.value.Goals.{Else-not-is_image}
+use Rattle.places.specs.Places.{said_valued}
+use Rattle.places.proofs.Laws.Incremental.{Refused, checked-ok, checked-err}
+use Rattle.places.proofs.Laws.Places.{on_place-kept, value-is}
+use Rattle.places.proofs.reading.value.Goals.{In_ok-check_place, After-from_residual}
 use Rattle.places.proofs.reading.value.Goals as goal
 
-pub returns-then-not-is_image : goal.returns-then-not-is_image
-returns-then-not-is_image c = record { answer = sym (value-is (image_in c.args.labels c.args.values c.args.words) c.args.place.node ∙ on_place-refused (image_in c.args.labels c.args.values c.args.words) c.args.place.node _ (sym c.is_image.ensures ∙ c.if-not-is_image.true)) }
+-- where the tests fail, that is passed on
+refused : (c : After-from_residual) → (r : Refusal) × (c.from_residual.result ≡ Err r) × Refused (image_in c.args.labels c.args.values c.args.words) c.args.place.node r
+refused c =
+    let (r, is, same) = err_from_is_err_and c.from_residual.result c.from_residual.ensures.1 in
+    (r, is, checked-err _ _ _ (sym c.check_place.ensures ∙ c.in_err-check_place.was ∙ ap Err (sym same)))
 
--- past the first test the image is a map's
-tested : (c : Else-not-is_image) → image_test (image_in c.args.labels c.args.values c.args.words) ≡ true
-tested c = sym c.is_image.ensures ∙ c.if-not-is_image.false
+pub returns-in_err-check_place : goal.returns-in_err-check_place
+returns-in_err-check_place c =
+    let (r, is, stays) = refused c in
+    record { answer = ap said_valued is ∙ sym (value-is (image_in c.args.labels c.args.values c.args.words) c.args.place.node ∙ stays.says _) }
 
-whole : (c : Else-not-is_image) → MapImage (image_in c.args.labels c.args.values c.args.words)
+-- past the tests the image is a map's, and the number one of its nodes
+tested : (c : In_ok-check_place) → (image_test (image_in c.args.labels c.args.values c.args.words) ≡ true) × (is_node (image_map (image_in c.args.labels c.args.values c.args.words)) c.args.place.node ≡ true)
+tested c = checked-ok _ _ _ (sym c.check_place.ensures ∙ c.in_ok-check_place.was)
+
+whole : (c : In_ok-check_place) → MapImage (image_in c.args.labels c.args.values c.args.words)
 whole c =
     tested-map_image (image_in c.args.labels c.args.values c.args.words)
     (record { words-wide = λ w. (c.type_inv.words w).fits; values-wide = λ e. (c.type_inv.values e).fits })
-    (tested c)
-
--- what the test of the number says of the map
-node-told : (c : Else-not-is_image) (r t : Bool) → r ≡ is_node_of (length c.args.labels.now) c.args.place.node → r ≡ t → is_node (image_map (image_in c.args.labels c.args.values c.args.words)) c.args.place.node ≡ t
-node-told c r t says e = sym (is_node-is (image_in c.args.labels c.args.values c.args.words) (whole c) c.args.place.node) ∙ sym says ∙ e
-
-pub returns-then-not-is_node : goal.returns-then-not-is_node
-returns-then-not-is_node c = record { answer = sym (value-is (image_in c.args.labels c.args.values c.args.words) c.args.place.node ∙ on_place-strange (image_in c.args.labels c.args.values c.args.words) c.args.place.node _ (tested (goal.at.returns-then-not-is_node c).Else-not-is_image) (node-told (goal.at.returns-then-not-is_node c).Else-not-is_image _ _ c.is_node.ensures c.if-not-is_node.true)) }
+    (tested c).0
 
 -- at a node of the map the map's value is what the node holds
-held : (c : Else-not-is_image) → is_node (image_map (image_in c.args.labels c.args.values c.args.words)) c.args.place.node ≡ true → (v : Option ℕ)
-    → value_of_node c.args.labels.now c.args.values.now c.args.place.node ≡ v
-    → value_says (image_in c.args.labels c.args.values c.args.words) c.args.place.node ≡ says_value v
-held c inside v e =
-    let i = image_in c.args.labels c.args.values c.args.words in
+pub returns : goal.returns
+returns c =
+    let i = (image_in c.args.labels c.args.values c.args.words) in
     let node = c.args.place.node in
-    value-is i node ∙ on_place-kept i node _ (tested c) inside ∙ ap says_value (sym (node-value i (whole c) node ((is_node-iff _ _).0 inside)) ∙ e)
-
-pub returns-in-Some : goal.returns-in-Some
-returns-in-Some c =
-    let inside = node-told (goal.at.returns-in-Some c).Else-not-is_image _ _ c.is_node.ensures c.if-not-is_node.false in
-    record { answer = sym (held (goal.at.returns-in-Some c).Else-not-is_image inside _ (sym c.value_at.ensures ∙ c.in-Some.is)) }
-
-pub returns-in-None : goal.returns-in-None
-returns-in-None c =
-    let inside = node-told (goal.at.returns-in-None c).Else-not-is_image _ _ c.is_node.ensures c.if-not-is_node.false in
-    record { answer = sym (held (goal.at.returns-in-None c).Else-not-is_image inside _ (sym c.value_at.ensures ∙ c.in-None.is)) }
+    let at = (goal.at.returns c).In_ok-check_place in
+    let (fits, inside) = tested at in
+    record { answer = ap says_value (c.value_at.ensures ∙ node-value i (whole at) node ((is_node-iff _ _).0 inside)) ∙ sym (value-is i node ∙ on_place-kept i node _ fits inside) }

@@ -7,15 +7,15 @@ use Rattle.pool.proofs.path.reach_of.Goals as goal
 pub loop-depth-init : goal.loop-depth-init
 loop-depth-init c = reach-of-start _ _
 
-pub returns-then-child-eq0 : goal.returns-then-child-eq0
-returns-then-child-eq0 c =
-    let e = rw c.from.ensures at c.child_at-child.ensures in
-    sym (c.loop-depth.invariant ∙ reach-none _ _ _ _ c.loop-depth-test.true (sym e ∙ c.if-child-eq0.true))
+pub returns-in_default : goal.returns-in_default
+returns-in_default c =
+    let e = rw c.from.ensures at c.child_at.ensures in
+    sym (c.loop-depth.invariant ∙ reach-none _ _ _ _ c.loop-depth-test.true (sym e ∙ c.in_default.is))
 
 pub loop-depth-preserved : goal.loop-depth-preserved
 loop-depth-preserved c =
-    let e = rw c.from.ensures at c.child_at-child.ensures in
-    c.loop-depth.invariant ∙ reach_step _ _ _ _ c.loop-depth-test.true (λ z. c.if-child-eq0.false (e ∙ z)) ∙ rw e
+    let e = rw c.from.ensures at c.child_at.ensures in
+    c.loop-depth.invariant ∙ reach_step _ _ _ _ _ c.loop-depth-test.true (sym e ∙ c.in-Some.is)
 
 pub returns : goal.returns
 returns c =

@@ -13,9 +13,6 @@ loop-at-init c =
       among-start a.labels.now a.node a.label a.from a.to c.max-low.result c.min-at-end.result (omega (arith, inner, outer)) (omega (arith, inner, outer)) c.min-at-end.ensures,
     )
 
-pub overflow_sub-at : goal.overflow_sub-at
-overflow_sub-at c = omega (arith, c.loop-at.invariant.1)
-
 pub returns-then-entry_matches : goal.returns-then-entry_matches
 returns-then-entry_matches c =
     let a = c.args in

@@ -1,6 +1,0 @@
--- `replay::memory::store_words` is safe and ends: each turn comes nearer to the end of the line. Assumes nothing.
-use Rattle.std.proofs.Common.{◌-◌, length}
-use Rattle.replay.proofs.memory.store_words.Given as goal
-
-abbrev pub decreases-loop-at : goal.decreases-loop-at
-decreases-loop-at l = length l.line - l.at

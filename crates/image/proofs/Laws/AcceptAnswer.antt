@@ -6,7 +6,7 @@
 --     said-means-map     an answer that says what the test says is 0 exactly if some map has the image
 --     said-checked-one   two answers that say the same are the same
 --     accepted-ok, accepted-err  the test by the answer
---     passed-says, passed-fails  a call that passes the refusal on by `?` says 6, since the test failed
+--     passed-fails, passed-six, passed-says  where `?` passes the refusal on the test failed, and the call says 6
 --     past-test          past the `?` the image is a map's
 -- Assumes nothing.
 use mathlib.Core.Path.{◌≡◌, refl, sym, ap, ◌∙◌}
@@ -87,10 +87,13 @@ module _ {T : Type 0} (i : Image) (a : Result (Unit {0}) Refusal) (e : Refusal) 
   pub passed-fails : image_test i ≡ false
   passed-fails = (accepted-err (image_test i) e (sym tested ∙ was)).0
 
-  pub passed-says : IsErrAnd r (λ x. x ≡ e) → (tells : T → List ℕ) (says : List ℕ) → said tells r ≡ on_image i says
-  passed-says passed tells says =
+  pub passed-six : IsErrAnd r (λ x. x ≡ e) → r ≡ Err Refusal.NotAnImage
+  passed-six passed =
       let (x, is, same) = err_from_is_err_and r passed in
-      ap (said tells) (is ∙ ap Err (same ∙ (accepted-err (image_test i) e (sym tested ∙ was)).1)) ∙ sym (rw passed-fails)
+      is ∙ ap Err (same ∙ (accepted-err (image_test i) e (sym tested ∙ was)).1)
+
+  pub passed-says : IsErrAnd r (λ x. x ≡ e) → (tells : T → List ℕ) (says : List ℕ) → said tells r ≡ on_image i says
+  passed-says passed tells says = ap (said tells) (passed-six passed) ∙ sym (rw passed-fails)
 
 pub past-test : (i : Image) → LentSlices i → (a : Result (Unit {0}) Refusal) (u : Unit {0}) → a ≡ accepted_if (image_test i) → a ≡ Ok u → (image_test i ≡ true) × MapImage i
 past-test i l a u tested was =

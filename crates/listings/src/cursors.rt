@@ -179,7 +179,12 @@ pub fn postfix_search(
 
 // The least key of the cursor's set above the one given last, with the cursor to go on with; after the last key, and of
 // a finished cursor, the end.
-pub fn step(labels: &[u16], values: &[u32], words: &[u64], cursor: Cursor) -> Result<Stepped, Refusal>
+pub fn step(
+    labels: &[u16],
+    values: &[u32],
+    words: &[u64],
+    cursor: Cursor,
+) -> Result<Stepped, Refusal>
     ensures answer { said_stepped result ≡ step_says (lent_image labels values words) cursor }
 {
     accept(labels, values, words)?; // for a finished cursor too

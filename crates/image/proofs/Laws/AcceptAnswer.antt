@@ -5,6 +5,9 @@
 --     accept-means-none  6 exactly if none has
 --     said-means-map     an answer that says what the test says is 0 exactly if some map has the image
 --     said-checked-one   two answers that say the same are the same
+--     accepted-ok, accepted-err  the test by the answer
+--     passed-fails, passed-six, passed-says  where `?` passes the refusal on the test failed, and the call says 6
+--     past-test          past the `?` the image is a map's
 -- Assumes nothing.
 use mathlib.Core.Path.{◌≡◌, refl, sym, ap, ◌∙◌}
 use mathlib.Core.Logic.{◌↔◌}
@@ -16,11 +19,15 @@ use lib.Dec.{eqb}
 use Rattle.keymap.specs.Refusals.{refuses}
 use Rattle.keymap.specs.declared.refusals.Refusal.{Refusal}
 use Rattle.keymap.specs.Image.{Image}
-use Rattle.std.specs.Prelude.{Result, Ok, Err}
+use Rattle.std.specs.Prelude.{Result, Ok, Err, IsErrAnd}
+use Rattle.std.proofs.lemmas.Result.{err_from_is_err_and}
+use Rattle.keymap.specs.Answers.{said}
 use Rattle.keymap.proofs.Laws.Answers.{said-one}
 use Rattle.image.specs.Accept.{OfMap, LentSlices}
 use Rattle.image.specs.AcceptTest.{image_test}
-use Rattle.image.specs.AcceptAnswer.{accepted_if, said_checked, accept_says}
+use Rattle.image.specs.AcceptAnswer.{accepted_if, said_checked, on_image, accept_says}
+use Rattle.image.specs.Meaning.{MapImage}
+use Rattle.image.proofs.Laws.Meaning.{tested-map_image}
 use Rattle.image.proofs.Laws.Accept.{accepted-iff}
 use Rattle.image.proofs.Laws.Passed.{image_test-iff}
 
@@ -73,3 +80,22 @@ accepted-ok false u e = let z : ◌≡◌ {A = ℕ} 0 1 = cc in absurd (omega ar
 pub accepted-err : (t : Bool) (r : Refusal) → accepted_if t ≡ Err r → (t ≡ false) × (r ≡ Refusal.NotAnImage)
 accepted-err false r e = (refl, let z : Refusal.NotAnImage ≡ r = cc in sym z)
 accepted-err true r e = let z : ◌≡◌ {A = ℕ} 0 1 = cc in absurd (omega arith)
+
+-- ---- behind `accept(..)?`
+
+module _ {T : Type 0} (i : Image) (a : Result (Unit {0}) Refusal) (e : Refusal) (r : Result T Refusal) (tested : a ≡ accepted_if (image_test i)) (was : a ≡ Err e) where
+  pub passed-fails : image_test i ≡ false
+  passed-fails = (accepted-err (image_test i) e (sym tested ∙ was)).0
+
+  pub passed-six : IsErrAnd r (λ x. x ≡ e) → r ≡ Err Refusal.NotAnImage
+  passed-six passed =
+      let (x, is, same) = err_from_is_err_and r passed in
+      is ∙ ap Err (same ∙ (accepted-err (image_test i) e (sym tested ∙ was)).1)
+
+  pub passed-says : IsErrAnd r (λ x. x ≡ e) → (tells : T → List ℕ) (says : List ℕ) → said tells r ≡ on_image i says
+  passed-says passed tells says = ap (said tells) (passed-six passed) ∙ sym (rw passed-fails)
+
+pub past-test : (i : Image) → LentSlices i → (a : Result (Unit {0}) Refusal) (u : Unit {0}) → a ≡ accepted_if (image_test i) → a ≡ Ok u → (image_test i ≡ true) × MapImage i
+past-test i l a u tested was =
+    let fits = accepted-ok (image_test i) u (sym tested ∙ was) in
+    (fits, tested-map_image i l fits)

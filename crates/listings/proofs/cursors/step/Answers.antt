@@ -3,11 +3,9 @@
 use mathlib.Core.Path.{◌≡◌, sym, ap, ◌∙◌}
 use Prim.Native.Nat.{◌+◌, ◌≤◌}
 use native.Mathlib.Omega.{arith}
-use mathlib.Core.Bool.{true, false}
+use mathlib.Core.Bool.{true}
 use mathlib.Core.List.{◌∷◌}
-use Rattle.std.specs.Prelude.{Option, Some, Err}
-use Rattle.std.proofs.lemmas.Result.{err_from_is_err_and}
-use Rattle.keymap.specs.declared.refusals.Refusal.{Refusal}
+use Rattle.std.specs.Prelude.{Option, Some}
 use borrow.Author.Rules.{rules}
 use Rattle.keymap.specs.Limits.{most_records}
 use Rattle.keymap.specs.Bits.{bit}
@@ -18,43 +16,32 @@ use Rattle.keymap.specs.Decode.{image_map}
 use Rattle.image.specs.Accept.{entries}
 use Rattle.image.specs.AcceptTest.{image_test}
 use Rattle.image.specs.Meaning.{image_in, MapImage}
-use Rattle.image.proofs.Laws.AcceptAnswer.{accepted-ok, accepted-err}
-use Rattle.image.proofs.Laws.Meaning.{tested-map_image}
+use Rattle.image.proofs.Laws.AcceptAnswer.{passed-says, past-test}
 use Rattle.climbs.specs.Order.{given_by, given_of}
 use Rattle.walks.specs.declared.entries.KeyNode.{KeyNode}
 use Rattle.listings.specs.declared.answers.Cursor.{Cursor}
 use Rattle.listings.specs.declared.answers.Cursor.TheVariants.{Open}
-use Rattle.listings.specs.Answers.{said_cursor, said_stepped}
+use Rattle.listings.specs.Answers.{told_step, said_cursor}
 use Rattle.listings.specs.Cursors.{set_of, belongs, next_in, says_step, step_says}
 use Rattle.listings.specs.Numbers.{next_given_by}
 use Rattle.walks.proofs.Laws.MapImage.{length-nodes}
-use Rattle.listings.proofs.Laws.Cursors.{step_says-refused, step_says-finished, step_says-bad, step_says-open, says_step-entry, says_step-nothing, given_inside}
+use Rattle.listings.proofs.Laws.Cursors.{step_says-finished, step_says-bad, step_says-open, says_step-entry, says_step-nothing, given_inside}
 use Rattle.listings.proofs.Laws.Numbers.{stands-path, given-path}
-use Rattle.listings.proofs.cursors.step.Goals.{In_ok-accept, After-from_residual, Else-not-stands}
+use Rattle.listings.proofs.cursors.step.Goals.{In_ok-accept, Else-not-stands}
 use Rattle.listings.proofs.cursors.step.Goals as goal
 
--- where the test fails, that is passed on
-refused : (c : After-from_residual)
-    → (image_test (image_in c.args.labels c.args.values c.args.words) ≡ false) × (c.from_residual.result ≡ Err Refusal.NotAnImage)
-refused c =
-    let (fails, number) = accepted-err _ _ (sym c.accept.ensures.tested ∙ c.in_err-accept.was) in
-    let passed = err_from_is_err_and c.from_residual.result c.from_residual.ensures.1 in
-    (fails, passed.1 ∙ ap Err (passed.2 ∙ number))
-
 pub returns-in_err-accept : goal.returns-in_err-accept
+unfolding step_says
 returns-in_err-accept c =
-    let (fails, six) = refused c in
-    record { answer = ap said_stepped six ∙ sym (step_says-refused (image_in c.args.labels c.args.values c.args.words) c.args.cursor fails) }
+    record { answer = passed-says (image_in c.args.labels c.args.values c.args.words) _ _ _ c.accept.ensures.tested c.in_err-accept.was c.from_residual.ensures.1 told_step _ }
 
 -- past the test the image is a map's
-tested : (c : In_ok-accept) → image_test (image_in c.args.labels c.args.values c.args.words) ≡ true
-tested c = accepted-ok _ _ (sym c.accept.ensures.tested ∙ c.in_ok-accept.was)
-
-whole : (c : In_ok-accept) → MapImage (image_in c.args.labels c.args.values c.args.words)
-whole c =
-    tested-map_image (image_in c.args.labels c.args.values c.args.words)
-    (record { words-wide = λ w. (c.type_inv.words w).fits; values-wide = λ e. (c.type_inv.values e).fits })
-    (tested c)
+past : (c : In_ok-accept) → (image_test (image_in c.args.labels c.args.values c.args.words) ≡ true) × MapImage (image_in c.args.labels c.args.values c.args.words)
+past c =
+    past-test (image_in c.args.labels c.args.values c.args.words)
+    (record { words-wide = λ w. (c.type_inv.words w).fits; values-wide = λ e. (c.type_inv.values e).fits }) _ _
+    c.accept.ensures.tested
+    c.in_ok-accept.was
 
 pub returns-in_default : goal.returns-in_default
 returns-in_default c =
@@ -62,7 +49,7 @@ returns-in_default c =
     record {
       answer =
           ap (λ (d : Cursor). 0 ∷ 0 ∷ said_cursor d) c.in_default.is
-          ∙ sym (ap (step_says i) c.in_default.is ∙ step_says-finished i _ (tested (goal.at.returns-in_default c).In_ok-accept));
+          ∙ sym (ap (step_says i) c.in_default.is ∙ step_says-finished i _ (past (goal.at.returns-in_default c).In_ok-accept).0);
     }
 
 pub returns-then-not-stands : goal.returns-then-not-stands
@@ -72,7 +59,7 @@ returns-then-not-stands c =
     record {
       answer = sym
           (ap (step_says i) c.in-Open.is
-          ∙ step_says-bad i _ _ _ (tested p) (sym (stands-path i (whole p) _ _ _) ∙ sym c.stands.ensures ∙ c.if-not-stands.true));
+          ∙ step_says-bad i _ _ _ (past p).0 (sym (stands-path i (past p).1 _ _ _) ∙ sym c.stands.ensures ∙ c.if-not-stands.true));
     }
 
 -- the image, its map, and what the cursor's next step gives
@@ -88,14 +75,14 @@ next_at c = next_in (map_at c) (set_of (map_at c) c.in-Open.kind (path_of (map_a
 -- the cursor's numbers belong
 belonging : (c : Else-not-stands) → belongs (map_at c) (Open c.in-Open.kind c.in-Open.top c.in-Open.last) ≡ true
 belonging c =
-    sym (stands-path _ (whole (goal.at.overflow_cast-top c).In_ok-accept) c.in-Open.kind c.in-Open.top c.in-Open.last)
+    sym (stands-path _ (past (goal.at.overflow_cast-top c).In_ok-accept).1 c.in-Open.kind c.in-Open.top c.in-Open.last)
     ∙ sym c.stands.ensures
     ∙ c.if-not-stands.false
 
 says : (c : Else-not-stands) → step_says (image_at c) c.args.cursor ≡ says_step (map_at c) c.in-Open.kind c.in-Open.top (next_at c)
 says c =
     ap (step_says (image_at c)) c.in-Open.is
-    ∙ step_says-open (image_at c) c.in-Open.kind c.in-Open.top c.in-Open.last (tested (goal.at.overflow_cast-top c).In_ok-accept) (belonging c)
+    ∙ step_says-open (image_at c) c.in-Open.kind c.in-Open.top c.in-Open.last (past (goal.at.overflow_cast-top c).In_ok-accept).0 (belonging c)
 
 -- what was given is the next entry of the cursor's set
 abbrev given_at : Else-not-stands → Option KeyNode
@@ -105,14 +92,14 @@ given_at c =
 
 gives : (c : Else-not-stands) (result is : Option KeyNode) → result ≡ given_at c → result ≡ is → given_by (map_at c) (next_at c) ≡ is
 gives c result is ensured matched =
-    sym (given-path _ (whole (goal.at.overflow_cast-top c).In_ok-accept) c.in-Open.kind c.in-Open.top c.in-Open.last (belonging c))
+    sym (given-path _ (past (goal.at.overflow_cast-top c).In_ok-accept).1 c.in-Open.kind c.in-Open.top c.in-Open.last (belonging c))
     ∙ sym ensured
     ∙ matched
 
 -- the node given is a node, so that its number fits
 fits : (c : Else-not-stands) (n : KeyNode) → given_by (map_at c) (next_at c) ≡ Some n → n.node ≤ most_records + 1
 fits c n given =
-    let map = whole (goal.at.overflow_cast-top c).In_ok-accept in
+    let map = (past (goal.at.overflow_cast-top c).In_ok-accept).1 in
     let inside = given_inside (map_at c) map.catalogue.rising c.in-Open.kind (path_of (map_at c) c.in-Open.top) c.in-Open.last n given in
     omega (arith, inside.1, length-nodes (image_at c) map, map.few)
 

@@ -1,45 +1,33 @@
 -- `searches::common_prefixes::common_prefix` meets its contract: of an image that no map has it answers 6, else what the map says. Assumes nothing.
 use mathlib.Core.Path.{◌≡◌, sym, ap, ◌∙◌}
-use mathlib.Core.Bool.{true, false}
-use Rattle.std.specs.Prelude.{Ok, Err, Option}
-use Rattle.std.proofs.lemmas.Result.{err_from_is_err_and}
-use Rattle.keymap.specs.declared.refusals.Refusal.{Refusal}
+use mathlib.Core.Bool.{true}
+use Rattle.std.specs.Prelude.{Ok, Option}
 use Rattle.image.specs.AcceptTest.{image_test}
 use Rattle.image.specs.Meaning.{image_in, MapImage}
-use Rattle.image.proofs.Laws.AcceptAnswer.{accepted-ok, accepted-err}
-use Rattle.image.proofs.Laws.Meaning.{tested-map_image}
+use Rattle.image.proofs.Laws.AcceptAnswer.{passed-says, past-test}
 use Rattle.searches.specs.declared.answers.Common.{Common}
-use Rattle.searches.specs.Answers.{said_common}
-use Rattle.searches.proofs.Laws.CommonPrefixes.{said-rule, common_says-refused, common_says-accepted}
-use Rattle.searches.proofs.common_prefixes.common_prefix.Goals.{In_ok-accept, After-from_residual}
+use Rattle.searches.specs.Answers.{told_common, said_common}
+use Rattle.searches.specs.CommonPrefixes.{common_says}
+use Rattle.searches.proofs.Laws.CommonPrefixes.{said-rule, common_says-accepted}
+use Rattle.searches.proofs.common_prefixes.common_prefix.Goals.{In_ok-accept}
 use Rattle.searches.proofs.common_prefixes.common_prefix.Goals as goal
 
--- where the test fails, that is passed on
-refused : (c : After-from_residual)
-    → (image_test (image_in c.args.labels c.args.values c.args.words) ≡ false) × (c.from_residual.result ≡ Err Refusal.NotAnImage)
-refused c =
-    let (fails, number) = accepted-err _ _ (sym c.accept.ensures.tested ∙ c.in_err-accept.was) in
-    let passed = err_from_is_err_and c.from_residual.result c.from_residual.ensures.1 in
-    (fails, passed.1 ∙ ap Err (passed.2 ∙ number))
-
 pub returns-in_err-accept : goal.returns-in_err-accept
+unfolding common_says
 returns-in_err-accept c =
-    let (fails, six) = refused c in
-    record { answer = ap said_common six ∙ sym (common_says-refused (image_in c.args.labels c.args.values c.args.words) c.args.query.now c.args.seen fails) }
+    record { answer = passed-says (image_in c.args.labels c.args.values c.args.words) _ _ _ c.accept.ensures.tested c.in_err-accept.was c.from_residual.ensures.1 told_common _ }
 
 -- past the test the image is a map's
-tested : (c : In_ok-accept) → image_test (image_in c.args.labels c.args.values c.args.words) ≡ true
-tested c = accepted-ok _ _ (sym c.accept.ensures.tested ∙ c.in_ok-accept.was)
-
-whole : (c : In_ok-accept) → MapImage (image_in c.args.labels c.args.values c.args.words)
-whole c =
-    tested-map_image (image_in c.args.labels c.args.values c.args.words)
-    (record { words-wide = λ w. (c.type_inv.words w).fits; values-wide = λ e. (c.type_inv.values e).fits })
-    (tested c)
+past : (c : In_ok-accept) → (image_test (image_in c.args.labels c.args.values c.args.words) ≡ true) × MapImage (image_in c.args.labels c.args.values c.args.words)
+past c =
+    past-test (image_in c.args.labels c.args.values c.args.words)
+    (record { words-wide = λ w. (c.type_inv.words w).fits; values-wide = λ e. (c.type_inv.values e).fits }) _ _
+    c.accept.ensures.tested
+    c.in_ok-accept.was
 
 pub returns : goal.returns
 returns c =
     let i = image_in c.args.labels c.args.values c.args.words in
     let q = c.args.query.now in
     let at = (goal.at.returns c).In_ok-accept in
-    record { answer = ap (λ (o : Option Common). said_common (Ok o)) c.shortest.ensures ∙ said-rule i (whole at) q c.args.seen ∙ sym (common_says-accepted i q c.args.seen (tested at)) }
+    record { answer = ap (λ (o : Option Common). said_common (Ok o)) c.shortest.ensures ∙ said-rule i (past at).1 q c.args.seen ∙ sym (common_says-accepted i q c.args.seen (past at).0) }

@@ -2,62 +2,47 @@
 use mathlib.Core.Path.{◌≡◌, sym, ap, ◌∙◌}
 use Prim.Native.Nat.{ℕ, ◌-◌}
 use native.Mathlib.Omega.{arith}
-use mathlib.Core.Bool.{true, false}
+use mathlib.Core.Bool.{true}
 use lib.ListN.{set}
-use Rattle.std.specs.Prelude.{Err}
-use Rattle.std.proofs.lemmas.Result.{err_from_is_err_and}
-use Rattle.keymap.specs.declared.refusals.Refusal.{Refusal}
 use Rattle.image.specs.AcceptTest.{image_test}
 use Rattle.image.specs.Meaning.{as_image, MapImage}
-use Rattle.image.proofs.Laws.AcceptAnswer.{accepted-ok, accepted-err}
-use Rattle.image.proofs.Laws.Meaning.{tested-map_image}
-use Rattle.keymap.specs.Answers.{says_value}
+use Rattle.image.proofs.Laws.AcceptAnswer.{passed-fails, passed-says, past-test}
+use Rattle.keymap.specs.Answers.{told_value, says_value}
 use Rattle.walks.proofs.Laws.MapWalk.{value-rule}
-use Rattle.searches.specs.Answers.{said_looked}
-use Rattle.searches.proofs.Laws.Exact.{Found, keyed-found, keyed-missed, found_inside, found-key, exact_says-refused, exact_says-accepted, set_values-refused, set_values-absent, set_values-present}
-use Rattle.searches.proofs.exact.set_value.Goals.{In_ok-accept, In-Some, After-from_residual}
+use Rattle.searches.specs.Exact.{exact_says}
+use Rattle.searches.proofs.Laws.Exact.{Found, keyed-found, keyed-missed, found_inside, found-key, exact_says-accepted, set_values-refused, set_values-absent, set_values-present}
+use Rattle.searches.proofs.exact.set_value.Goals.{In_ok-accept, In-Some}
 use Rattle.searches.proofs.exact.set_value.Goals as goal
 
--- where the test fails, that is passed on
-refused : (c : After-from_residual)
-    → (image_test (as_image c.args.labels.now c.args.values.now c.args.words.now) ≡ false) × (c.from_residual.result ≡ Err Refusal.NotAnImage)
-refused c =
-    let (fails, number) = accepted-err _ _ (sym c.accept.ensures.tested ∙ c.in_err-accept.was) in
-    let passed = err_from_is_err_and c.from_residual.result c.from_residual.ensures.1 in
-    (fails, passed.1 ∙ ap Err (passed.2 ∙ number))
-
 pub returns-in_err-accept-clause-answer : goal.returns-in_err-accept-clause-answer
-returns-in_err-accept-clause-answer c =
-    let (fails, six) = refused c in
-    ap said_looked six ∙ sym (exact_says-refused (as_image c.args.labels.now c.args.values.now c.args.words.now) c.args.query.now fails)
+unfolding exact_says
+returns-in_err-accept-clause-answer c = passed-says (as_image c.args.labels.now c.args.values.now c.args.words.now) _ _ _ c.accept.ensures.tested c.in_err-accept.was c.from_residual.ensures.1 told_value _
 
 pub returns-in_err-accept-clause-written : goal.returns-in_err-accept-clause-written
 returns-in_err-accept-clause-written c =
-    sym (set_values-refused (as_image c.args.labels.now c.args.values.now c.args.words.now) c.args.query.now (refused c).0 c.args.value)
+    sym (set_values-refused (as_image c.args.labels.now c.args.values.now c.args.words.now) c.args.query.now (passed-fails (as_image c.args.labels.now c.args.values.now c.args.words.now) _ _ c.from_residual.result c.accept.ensures.tested c.in_err-accept.was) c.args.value)
 
 -- past the test the image is a map's
-tested : (c : In_ok-accept) → image_test (as_image c.args.labels.now c.args.values.now c.args.words.now) ≡ true
-tested c = accepted-ok _ _ (sym c.accept.ensures.tested ∙ c.in_ok-accept.was)
-
-whole : (c : In_ok-accept) → MapImage (as_image c.args.labels.now c.args.values.now c.args.words.now)
-whole c =
-    tested-map_image (as_image c.args.labels.now c.args.values.now c.args.words.now)
-    (record { words-wide = λ w. (c.type_inv.words w).fits; values-wide = λ e. (c.slice_known-1.given e).fits })
-    (tested c)
+past : (c : In_ok-accept) → (image_test (as_image c.args.labels.now c.args.values.now c.args.words.now) ≡ true) × MapImage (as_image c.args.labels.now c.args.values.now c.args.words.now)
+past c =
+    past-test (as_image c.args.labels.now c.args.values.now c.args.words.now)
+    (record { words-wide = λ w. (c.type_inv.words w).fits; values-wide = λ e. (c.slice_known-1.given e).fits }) _ _
+    c.accept.ensures.tested
+    c.in_ok-accept.was
 
 pub returns-in_default-clause-answer : goal.returns-in_default-clause-answer
 returns-in_default-clause-answer c =
     let i = as_image c.args.labels.now c.args.values.now c.args.words.now in
     let q = c.args.query.now in
     let at = (goal.at.returns-in_default-clause-answer c).In_ok-accept in
-    sym (exact_says-accepted i q (tested at) ∙ ap says_value (sym (value-rule i (whole at) q) ∙ keyed-missed i q (sym c.find.ensures ∙ c.in_default.is)))
+    sym (exact_says-accepted i q (past at).0 ∙ ap says_value (sym (value-rule i (past at).1 q) ∙ keyed-missed i q (sym c.find.ensures ∙ c.in_default.is)))
 
 pub returns-in_default-clause-written : goal.returns-in_default-clause-written
 returns-in_default-clause-written c =
     let i = as_image c.args.labels.now c.args.values.now c.args.words.now in
     let q = c.args.query.now in
     let at = (goal.at.returns-in_default-clause-written c).In_ok-accept in
-    sym (set_values-absent i q (tested at) c.args.value (sym (value-rule i (whole at) q) ∙ keyed-missed i q (sym c.find.ensures ∙ c.in_default.is)))
+    sym (set_values-absent i q (past at).0 c.args.value (sym (value-rule i (past at).1 q) ∙ keyed-missed i q (sym c.find.ensures ∙ c.in_default.is)))
 
 -- the key that was found
 found : (c : In-Some)
@@ -79,8 +64,8 @@ returns-clause-answer c =
     let i = as_image c.args.labels.now c.args.values.now c.args.words.now in
     let q = c.args.query.now in
     let at = (goal.at.returns-clause-answer c).In_ok-accept in
-    let (number, held) = found-key i (whole at) q _ _ (found (goal.at.returns-clause-answer c).In-Some) in
-    sym (exact_says-accepted i q (tested at) ∙ ap says_value held)
+    let (number, held) = found-key i (past at).1 q _ _ (found (goal.at.returns-clause-answer c).In-Some) in
+    sym (exact_says-accepted i q (past at).0 ∙ ap says_value held)
 
 pub returns-clause-written : goal.returns-clause-written
 returns-clause-written c =
@@ -88,5 +73,5 @@ returns-clause-written c =
     let q = c.args.query.now in
     let v = c.args.value in
     let at = (goal.at.returns-clause-written c).In_ok-accept in
-    let (number, held) = found-key i (whole at) q _ _ (found (goal.at.returns-clause-written c).In-Some) in
-    ap (λ (k : ℕ). set c.args.values.now (k - 2) v) number ∙ sym (set_values-present i q (tested at) v _ held)
+    let (number, held) = found-key i (past at).1 q _ _ (found (goal.at.returns-clause-written c).In-Some) in
+    ap (λ (k : ℕ). set c.args.values.now (k - 2) v) number ∙ sym (set_values-present i q (past at).0 v _ held)

@@ -79,8 +79,8 @@ def names(crate):
         module = [part for part in path.relative_to(top / 'src').with_suffix('').parts if part not in ('lib', 'main', 'mod')]
         owner = []
         for line in path.read_text('utf-8').split('\n'):
-            if line.startswith(('impl ', '}')):
-                owner = re.findall(r'^impl (\w+)', line)
+            if line.startswith(('impl', '}')):
+                owner = re.findall(r'^impl(?:<.*?>)? (?:.* for )?(\w+)', line)
             found |= {'::'.join([crate, *module, *owner, name]) for name in re.findall(r'^\s*(?:pub(?:\(\w+\))? )?fn (\w+)', line)}
     for path in (top / 'proofs').rglob('*.antt'):
         file = '.'.join(path.relative_to(top / 'proofs').with_suffix('').parts)

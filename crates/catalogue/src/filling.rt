@@ -9,7 +9,7 @@ ghost use Rattle.catalogue.specs.Limits.{program_capacity};
 
 use crate::sizes::POOL_WORDS;
 use keymap::Refusal;
-use lines::answers::Line;
+use lines::answers::Cut;
 
 // The first line that is refused, by its number from 1. The lines before it are pushed.
 #[derive(Clone, Copy)]
@@ -36,7 +36,7 @@ fn push_lines(text: &[u8], pool: &mut [u32]) -> Result<(), Refused>
 {
     let mut at = 0;
     let mut line = 1;
-    while let Some(Line { end, next }) = lines::next_line(text, at) {
+    while let Some(Cut { end, next }) = lines::next_line(text, at) {
         if let Err(refusal) = push_line(&text[at..end], pool) {
             return Err(Refused { refusal, line });
         }

@@ -9,7 +9,7 @@ ghost use Rattle.std.specs.Prelude.{◌≤◌, length};
 
 use catalogue::reading::{begin, take_read};
 use catalogue::{CAPACITY, FILE_ROOM, IMAGE_WORDS, OUT_ROOM, POOL_WORDS, answer};
-use lines::answers::Line;
+use lines::answers::Cut;
 use replay::lists::read_list;
 use replay::printing::text;
 
@@ -90,7 +90,7 @@ fn run_cases(
     out: &mut [u8; OUT_ROOM],
 ) {
     let mut at = 0;
-    while let Some(Line { end, next }) = lines::next_line(cases, at) {
+    while let Some(Cut { end, next }) = lines::next_line(cases, at) {
         let case = &cases[at..end];
         let length = expand(case, text);
         let mut reading = begin();

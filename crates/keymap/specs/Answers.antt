@@ -1,7 +1,8 @@
 -- What several calls say in numbers: a refusal is its number alone, every other answer begins with 0 and goes on with
 -- what it tells.
 --
---     said           an answer that may be a refusal, and `told_value`, `told_flag`: what a value found tells, and yes or no
+--     said           an answer that may be a refusal: its number, or 0 and what the answer tells
+--     told_value     what a value found tells, and `told_flag`: yes, or no
 --     given          whether something was found
 --     says_value     a value found, or no match
 --     says_flag      yes, or no

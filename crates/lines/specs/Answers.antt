@@ -3,14 +3,14 @@
 use Rattle.std.specs.Prelude.{ℕ, List, [], ◌∷◌, Option, None, Some, Result, Ok, Err}
 use Rattle.keymap.specs.Refusals.{refuses}
 use Rattle.keymap.specs.declared.refusals.Refusal.{Refusal}
-use Rattle.lines.specs.declared.answers.Entry.{Entry}
-use Rattle.lines.specs.declared.answers.Line.{Line}
+use Rattle.lines.specs.declared.answers.Parsed.{Parsed}
+use Rattle.lines.specs.declared.answers.Cut.{Cut}
 
-abbrev pub said_parsed : Result Entry Refusal → List ℕ
+abbrev pub said_parsed : Result Parsed Refusal → List ℕ
 said_parsed (Ok e) = 0 ∷ e.key_len ∷ e.number ∷ []
 said_parsed (Err r) = refuses r
 
-abbrev pub said_cut : Option Line → List ℕ
+abbrev pub said_cut : Option Cut → List ℕ
 said_cut None = 0 ∷ []
 said_cut (Some l) = 0 ∷ l.end ∷ l.next ∷ []
 

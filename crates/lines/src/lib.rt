@@ -14,14 +14,14 @@ ghost use Rattle.lines.specs.TabLine.{tab_line_says, tab_line_key};
 ghost use Rattle.lines.specs.Text.{next_line_says};
 ghost use Rattle.lines.specs.Writing.{write_line_says, write_line_out};
 
-use crate::answers::{Entry, Line};
+use crate::answers::{Cut, Parsed};
 use crate::bytes::{LF, TAB, find};
 use crate::decimal::{digit_count, number_in};
 use crate::writing::put_line;
 use keymap::Refusal;
 
 // Reads a line, which is given without its LF.
-pub fn tab_line(line: &[u8]) -> Result<Entry, Refusal>
+pub fn tab_line(line: &[u8]) -> Result<Parsed, Refusal>
     ensures { said_parsed result ≡ tab_line_says line.now }
 {
     let tab = find(line, TAB).ok_or(Refusal::BadLine)?;
@@ -29,7 +29,7 @@ pub fn tab_line(line: &[u8]) -> Result<Entry, Refusal>
         return Err(Refusal::BadLine);
     }
     let number = number_in(&line[tab + 1..]).ok_or(Refusal::BadLine)?;
-    Ok(Entry {
+    Ok(Parsed {
         key_len: tab,
         number,
     })
@@ -45,7 +45,7 @@ pub fn tab_line_key(line: &[u8]) -> &[u8]
 }
 
 // Cuts the line that begins at a position out of a text. There is none at the text's end or past it.
-pub fn next_line(text: &[u8], at: usize) -> Option<Line>
+pub fn next_line(text: &[u8], at: usize) -> Option<Cut>
     ensures { said_cut result ≡ next_line_says text.now at }
 {
     if text.len() <= at {
@@ -53,10 +53,10 @@ pub fn next_line(text: &[u8], at: usize) -> Option<Line>
     }
     let Some(length) = find(&text[at..], LF) else {
         let end = text.len();
-        return Some(Line { end, next: end });
+        return Some(Cut { end, next: end });
     };
     let end = at + length;
-    Some(Line { end, next: end + 1 })
+    Some(Cut { end, next: end + 1 })
 }
 
 // Writes the line of an entry, with its LF, at the start of the buffer, and answers its length.

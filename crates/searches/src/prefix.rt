@@ -11,8 +11,8 @@ use keymap::Refusal;
 use walks::glide::glide;
 
 // The longest common prefix of all keys that begin with a query, its own among them, written to the front of a buffer.
-// The buffer is compared with its length. Where no key begins with the query, or they have nothing in common, nothing is
-// written.
+// The buffer is compared with its length. Where no key begins with the query, or they have nothing in common, nothing
+// is written.
 pub fn longest_prefix(
     labels: &[u16],
     values: &[u32],

@@ -30,7 +30,7 @@ goes_through ls vs b len s =
 unfoldable pub only_kid : (ℕ → ℕ) → ℕ → Stand → Stand
 only_kid b len s = kid_from b len s.node (kids_from b len s).next (kids_from b len s).first
 
-unfoldable pub onward_from : List ℕ → List ℕ → (ℕ → ℕ) → ℕ → Stand → Option Stand
+abbrev pub onward_from : List ℕ → List ℕ → (ℕ → ℕ) → ℕ → Stand → Option Stand
 onward_from ls vs b len s = cond (goes_through ls vs b len s) (Some (only_kid b len s)) None
 
 -- after some steps, with at most `left` more

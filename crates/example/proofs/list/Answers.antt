@@ -4,11 +4,11 @@ use lib.Seq.{length-take-le}
 use Rattle.example.proofs.Within.{key-within}
 use Rattle.example.proofs.list.Goals as goal
 
-pub slice_bounds-line-end : goal.slice_bounds-line-end
-slice_bounds-line-end g c =
+pub slice_bounds-key-end : goal.slice_bounds-key-end
+slice_bounds-key-end g c =
     omega (arith, key-within _ _ _ _ c.in_ok-length.ensures.answer, c.cursor_key.auto.out)
 
-pub slice_bounds-line-end-2 : goal.slice_bounds-line-end-2
-slice_bounds-line-end-2 g c =
+pub slice_bounds-line-end : goal.slice_bounds-line-end
+slice_bounds-line-end g c =
     sym
     (length-take-le _ _ (omega (arith, key-within _ _ _ _ c.in_ok-length.ensures.answer, c.cursor_key.auto.out)))

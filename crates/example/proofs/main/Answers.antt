@@ -30,5 +30,5 @@ slice_bounds-words-end c = (lies (goal.at.slice_bounds-words-end c).After-line).
 pub slice_bounds-words-end-2 : goal.slice_bounds-words-end-2
 slice_bounds-words-end-2 c = sym (length-take-le _ _ (lies (goal.at.slice_bounds-words-end-2 c).After-line).2)
 
-pub overflow_sub-line : goal.overflow_sub-line
-overflow_sub-line c = omega (arith, used-within _ _ c.in_ok-used.ensures.answer)
+pub overflow_sub-used : goal.overflow_sub-used
+overflow_sub-used c = omega (arith, used-within _ _ c.in_ok-used.ensures.answer)

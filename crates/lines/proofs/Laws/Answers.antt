@@ -7,11 +7,11 @@ use mathlib.Core.Path.{◌≡◌, refl, ap}
 use Rattle.std.specs.Prelude.{Option, None, Some, Result, Ok, Err}
 use Rattle.keymap.specs.declared.refusals.Refusal.{Refusal}
 use Rattle.keymap.proofs.Laws.Refusals.{refusal-one}
-use Rattle.lines.specs.declared.answers.Entry.{Entry}
-use Rattle.lines.specs.declared.answers.Line.{Line}
+use Rattle.lines.specs.declared.answers.Parsed.{Parsed}
+use Rattle.lines.specs.declared.answers.Cut.{Cut}
 use Rattle.lines.specs.Answers.{said_parsed, said_cut, said_written}
 
-pub said-parsed-one : (r s : Result Entry Refusal) → said_parsed r ≡ said_parsed s → r ≡ s
+pub said-parsed-one : (r s : Result Parsed Refusal) → said_parsed r ≡ said_parsed s → r ≡ s
 said-parsed-one (Ok e) (Ok d) q =
     let key : e.key_len ≡ d.key_len = cc in
     let number : e.number ≡ d.number = cc in
@@ -20,7 +20,7 @@ said-parsed-one (Ok e) (Err r) q = cc
 said-parsed-one (Err r) (Ok e) q = cc
 said-parsed-one (Err r) (Err s) q = ap Err (refusal-one r s cc)
 
-pub said-cut-one : (r s : Option Line) → said_cut r ≡ said_cut s → r ≡ s
+pub said-cut-one : (r s : Option Cut) → said_cut r ≡ said_cut s → r ≡ s
 said-cut-one (Some l) (Some k) q =
     let end : l.end ≡ k.end = cc in
     let next : l.next ≡ k.next = cc in

@@ -9,13 +9,13 @@ use lib.Seq.{length-take-le}
 use Rattle.std.specs.Prelude.{Result, Ok, Err}
 use Rattle.std.specs.Result.{MatchResult}
 use Rattle.keymap.specs.declared.refusals.Refusal.{Refusal}
-use Rattle.lines.specs.declared.answers.Entry.{Entry}
+use Rattle.lines.specs.declared.answers.Parsed.{Parsed}
 use Rattle.lines.specs.Answers.{said_parsed}
 use Rattle.lines.specs.TabLine.{tab_line_says, tab_line_key}
 use Rattle.lines.proofs.Laws.TabLine.{tab_line_key-none, tab_line_key-some}
 use Rattle.lines.proofs.tab_line_key.Goals as goal
 
-part : (line : List ℕ) (r : Result Entry Refusal) (k : ℕ) → said_parsed r ≡ tab_line_says line → MatchResult r (λ e. k ≡ e.key_len) (λ _. k ≡ 0)
+part : (line : List ℕ) (r : Result Parsed Refusal) (k : ℕ) → said_parsed r ≡ tab_line_says line → MatchResult r (λ e. k ≡ e.key_len) (λ _. k ≡ 0)
     → (take k line ≡ tab_line_key line) × (k ≤ length line)
 part line (Ok e) k said is =
     let (key, within) = tab_line_key-some line _ _ (sym said) in

@@ -10,7 +10,8 @@
 --     answer-tells          what the two tests of an answer mean
 --     query-moves, query-stays; follow-moves; goto-moves, goto-stays  the path of the place afterwards
 --     goto-key-single       from a path with a single child goto moves on, be the path a key or not
---     checked-ok, checked-err  the two tests by which refusal they answer; `no-image`: where the first fails
+--     checked-ok, checked-err  the two tests by what they answer; `no-image`: where the first fails; `passed-on`: where a
+--                           call passes their refusal on
 --     promise-refused, promise-kept  a promise by the tests that come first
 -- Assumes nothing.
 use mathlib.Core.Path.{◌≡◌, refl, sym, ap, ◌∙◌}
@@ -20,6 +21,8 @@ use native.Mathlib.Omega.{arith}
 use mathlib.Core.Bool.{Bool, true, false, cond, true≢false}
 use mathlib.Core.List.{List, [], ◌∷◌, ◌++◌, append_assoc, append-nil}
 use Rattle.std.specs.Prelude.{Option, None, Some, Result, Ok, Err}
+use Rattle.std.specs.Result.{IsErrAnd}
+use Rattle.std.proofs.lemmas.Result.{err_from_is_err_and}
 use lib.ListN.{length, take}
 use Rattle.keymap.specs.Members.{In, here}
 use Rattle.keymap.specs.Key.{Key, PrefixOf}
@@ -36,7 +39,10 @@ use Rattle.keymap.proofs.Laws.Queries.{beginning-iff, longer-iff, lookup-longer,
 use Rattle.keymap.proofs.Laws.Paths.{is_node-iff, path_of-root, path_of-in, path_of-node_of, nodes-iff, nodes-prefix, is_path-iff, node_of-root, node_of-path_of, children_in-iff, children_in-some}
 use Rattle.keymap.proofs.Laws.Common.{longer-single, ends-valued}
 use Rattle.keymap.specs.Answers.{given}
+use Rattle.image.specs.Accept.{LentSlices}
 use Rattle.image.specs.AcceptTest.{image_test}
+use Rattle.image.specs.Meaning.{MapImage}
+use Rattle.image.proofs.Laws.Meaning.{tested-map_image}
 use Rattle.places.specs.declared.answers.Answer.{Answer}
 use Rattle.places.specs.declared.answers.Answer.TheVariants.{Prefix, Match, PrefixAndMatch}
 use Rattle.places.specs.Incremental.{said_answer, tells_prefix, tells_match, says_ok, says_err, place_at, checked_place, on_place, from_place, path_says, query_in, query_says, query_moves, walkable, follow_in, follow_says, follow_moves, common_below, goto_in, goto_says, goto_moves, Promise}
@@ -184,6 +190,12 @@ pub record Refused (i : Image) (k : ℕ) (r : Refusal) : Type 0 where
   pub stays : (to : ℕ) → from_place i k to ≡ k
   pub leaves : (new old : List ℕ) → cond (image_test i) (cond (is_node (image_map i) k) new old) old ≡ old
 
+-- a call goes on: the image is a map's, and the number one of its nodes
+pub record Belongs (i : Image) (k : ℕ) : Type 0 where
+  pub fits : image_test i ≡ true
+  pub inside : is_node (image_map i) k ≡ true
+  pub whole : MapImage i
+
 module _ (i : Image) (k : ℕ) where
   pub no-image : image_test i ≡ false → Refused i k NotAnImage
   no-image e = record { says = λ s. rw e; stays = λ to. rw e; leaves = λ new old. rw e }
@@ -191,13 +203,13 @@ module _ (i : Image) (k : ℕ) where
   no-node : image_test i ≡ true → is_node (image_map i) k ≡ false → Refused i k BadPlace
   no-node e f = record { says = λ s. rw (e, f); stays = λ to. rw (e, f); leaves = λ new old. rw (e, f) }
 
-  pub checked-ok : (u : Unit {0}) → checked_place i k ≡ Ok u → (image_test i ≡ true) × (is_node (image_map i) k ≡ true)
-  checked-ok u = go (image_test i) (is_node (image_map i) k)
+  pub checked-ok : LentSlices i → (u : Unit {0}) → checked_place i k ≡ Ok u → Belongs i k
+  checked-ok lent u = go (image_test i) refl (is_node (image_map i) k) refl
     where
-      go : (t b : Bool) → cond t (cond b (Ok tt) (Err BadPlace)) (Err NotAnImage) ≡ Ok u → (t ≡ true) × (b ≡ true)
-      go true true e = (refl, refl)
-      go true false e = let z : ◌≡◌ {A = ℕ} 0 1 = cc in absurd (omega arith)
-      go false b e = let z : ◌≡◌ {A = ℕ} 0 1 = cc in absurd (omega arith)
+      go : (t : Bool) → image_test i ≡ t → (b : Bool) → is_node (image_map i) k ≡ b → ◌≡◌ {A = Result (Unit {0}) Refusal} (cond t (cond b (Ok tt) (Err BadPlace)) (Err NotAnImage)) (Ok u) → Belongs i k
+      go true e true f g = record { fits = e; inside = f; whole = tested-map_image i lent e }
+      go true e false f g = let z : ◌≡◌ {A = ℕ} 0 1 = cc in absurd (omega arith)
+      go false e b f g = let z : ◌≡◌ {A = ℕ} 0 1 = cc in absurd (omega arith)
 
   pub checked-err : (r : Refusal) → checked_place i k ≡ Err r → Refused i k r
   checked-err r = go (image_test i) refl (is_node (image_map i) k) refl
@@ -206,6 +218,12 @@ module _ (i : Image) (k : ℕ) where
       go true e true f g = let z : ◌≡◌ {A = ℕ} 0 1 = cc in absurd (omega arith)
       go true e false f g = let z : BadPlace ≡ r = cc in rw z at (no-node e f)
       go false e b f g = let z : NotAnImage ≡ r = cc in rw z at (no-image e)
+
+  pub passed-on : {T : Type 0} (checked : Result (Unit {0}) Refusal) (r : Refusal) (result : Result T Refusal) → checked ≡ checked_place i k → checked ≡ Err r → IsErrAnd result (λ s. s ≡ r)
+      → (s : Refusal) × (result ≡ Err s) × Refused i k s
+  passed-on checked r result told e passed =
+      let (s, is, same) = err_from_is_err_and result passed in
+      (s, is, checked-err s (sym told ∙ e ∙ ap Err (sym same)))
 
 -- ---- promises
 

@@ -8,8 +8,8 @@ use Prim.Native.Nat.{ℕ, zero, suc, ◌<◌}
 use native.Mathlib.Omega.{arith}
 use mathlib.Core.List.Memᴰ
 use mathlib.Core.List.{[], ◌∷◌}
-use Rattle.std.specs.Prelude.{Option, None, Some}
-use Rattle.std.proofs.lemmas.Option.{none-ne-some}
+use Rattle.std.specs.Prelude.{None, Some}
+use Rattle.std.proofs.lemmas.Option.{none-some, same_Some}
 use Rattle.keymap.specs.Members.{In}
 use lib.ListN.{length, replicate, length-replicate}
 use Rattle.keymap.specs.Bits.{bit, sum_below, words_for}
@@ -82,12 +82,6 @@ met-a : (met image_a a ≡ 2 ∷ 3 ∷ []) × (node_by image_a a ≡ Some 2) × 
 unfolding met_from counted value_of_node walked_from child_by lowest_by is_child_by matches children_of run_from kth gap bit sum_below
 met-a = (refl, refl, refl)
 
-some_one : (m n : ℕ) → ◌≡◌ {A = Option ℕ} (Some m) (Some n) → m ≡ n
-some_one m n e = cc
-
-none-some : (m : ℕ) → ◌≡◌ {A = Option ℕ} None (Some m) → ⊥
-none-some m e = none-ne-some m e
-
 entry-met : (m : ℕ) → In m (2 ∷ 3 ∷ []) → node_entry image_a m ≡ node_entry other m
 entry-met m n =
     ⊎_elim (λ e. ap (node_entry image_a) e ∙ ap (node_entry other) (sym e))
@@ -101,7 +95,7 @@ alike-b = record {
   lengths = refl;
   bits = same_bits;
   siblings = λ m n. entry-met m (subst (In m) met-b.0 n);
-  value = λ m v f g. ap (node_value other) (sym (some_one 3 m (sym met-b.1 ∙ f))) ∙ some_one 3 v (sym met-b.2 ∙ g);
+  value = λ m v f g. ap (node_value other) (sym (same_Some 3 m (sym met-b.1 ∙ f))) ∙ same_Some 3 v (sym met-b.2 ∙ g);
 }
 
 alike-a : Alike image_a other a

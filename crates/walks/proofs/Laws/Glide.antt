@@ -87,7 +87,6 @@ module _ (ls vs : List ℕ) (b : ℕ → ℕ) (len : ℕ) (s : Stand) where
           record { above = above; within = within }
 
   pub onward-to : (t : Stand) → onward_from ls vs b len s ≡ Some t → (goes_through ls vs b len s ≡ true) × (only_kid b len s ≡ t)
-  unfolding onward_from
   onward-to t e = go (goes_through ls vs b len s) refl
     where
       go : (x : Bool) → goes_through ls vs b len s ≡ x → (goes_through ls vs b len s ≡ true) × (only_kid b len s ≡ t)
@@ -95,7 +94,6 @@ module _ (ls vs : List ℕ) (b : ℕ → ℕ) (len : ℕ) (s : Stand) where
       go false f = let never : None ≡ Some t = rw f at e in let z : ◌≡◌ {A = ℕ} 0 1 = cc in absurd (omega arith)
 
   pub onward-end : onward_from ls vs b len s ≡ None → goes_through ls vs b len s ≡ false
-  unfolding onward_from
   onward-end e = go (goes_through ls vs b len s) refl
     where
       go : (x : Bool) → goes_through ls vs b len s ≡ x → goes_through ls vs b len s ≡ false

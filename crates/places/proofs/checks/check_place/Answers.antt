@@ -1,25 +1,17 @@
 -- `places::checks::check_place` meets its contract: 6 of an image that no map has, then 7 of a number that is no node's. Assumes nothing.
-use mathlib.Core.Path.{◌≡◌, refl, sym, ap, ◌∙◌}
+use mathlib.Core.Path.{◌≡◌, refl, sym, ◌∙◌}
 use mathlib.Core.Bool.{Bool, true}
 use lib.ListN.{length}
-use Rattle.std.specs.Prelude.{Err}
-use Rattle.std.proofs.lemmas.Result.{err_from_is_err_and}
 use Rattle.keymap.specs.Paths.{is_node}
 use Rattle.keymap.specs.Decode.{image_map}
 use Rattle.image.specs.AcceptTest.{image_test}
 use Rattle.image.specs.Meaning.{image_in, MapImage}
-use Rattle.image.proofs.Laws.AcceptAnswer.{accepted-ok, accepted-err}
+use Rattle.image.proofs.Laws.AcceptAnswer.{accepted-ok}
 use Rattle.image.proofs.Laws.Meaning.{tested-map_image}
 use Rattle.walks.specs.Rule.{is_node_of}
 use Rattle.walks.proofs.Laws.MapImage.{is_node-is}
 use Rattle.places.proofs.checks.check_place.Goals.{In_ok-accept}
 use Rattle.places.proofs.checks.check_place.Goals as goal
-
-pub returns-in_err-accept : goal.returns-in_err-accept
-returns-in_err-accept c =
-    let (fails, number) = accepted-err _ _ (sym c.accept.ensures.tested ∙ c.in_err-accept.was) in
-    let passed = err_from_is_err_and c.from_residual.result c.from_residual.ensures.1 in
-    rw fails (passed.1 ∙ ap Err (passed.2 ∙ number))
 
 -- past the first test the image is a map's
 tested : (c : In_ok-accept) → image_test (image_in c.args.labels c.args.values c.args.words) ≡ true

@@ -14,17 +14,10 @@ use Rattle.walks.specs.declared.stands.Stand.{Stand}
 use Rattle.walks.specs.Rule.{child_by}
 use Rattle.walks.specs.Stands.{down_from, reached_at}
 use Rattle.walks.proofs.Laws.Stands.{down_rule, reached_at-to, reached_at-lost}
-use Rattle.places.specs.Moves.{stand_in, answer_by, follow_ends, follow_from, follow_by}
+use Rattle.places.specs.Moves.{answer_by, follow_ends, follow_from, follow_by}
 use Rattle.places.proofs.Laws.Moves.{follow-end, ends-empty, ends_some, follow-stops, follow-on}
 use Rattle.places.proofs.moves.follow.Goals.{After-down, After-loop-j, then-is_empty, else-is_empty}
 use Rattle.places.proofs.moves.follow.Goals as goal
-
-pub loop-j-init : goal.loop-j-init
-loop-j-init c =
-    let i = image_in c.args.labels c.args.values c.args.words in
-    let told = c.stand_at-s.ensures in
-    let same = ap (λ (s : Stand). s.node) told in
-    (told ∙ ap (stand_in i) (sym same), ap (λ k. follow_from i c.args.query.now 0 k) (sym same))
 
 -- what a step answers, by the rule
 step : (c : After-down) (t : Option Stand) → c.down.result ≡ t

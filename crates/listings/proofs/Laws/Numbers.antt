@@ -2,7 +2,7 @@
 --
 --     in_set_by-unvalued, -predictive, -own, -postfix  a node of a set
 --     first_given_by-held, -bare  the first key below a top
---     start_by-lost, -far, -near  the start
+--     start_by-lost, -near        the start
 --     stands-path                 the numbers stand exactly if the cursor belongs
 --     given-path                  of a cursor that belongs the next entry of its set is given
 --     start-path                  the start at the node of the query, if its set has a key
@@ -86,10 +86,6 @@ module _ (ls : List ℕ) (b : ℕ → ℕ) (len : ℕ) (kind : Kind) (q : Key) w
   start_by-lost e = ap (start_from ls b len kind) e
 
   module _ (k : ℕ) (ended : walked ls b len q ≡ Some k) where
-    pub start_by-far : number_limit ≤ k → start_by ls b len kind q ≡ Finished kind
-    unfolding start_by
-    start_by-far l = ap (start_from ls b len kind) ended ∙ rw (le-ltb k number_limit l)
-
     pub start_by-near : k < number_limit → start_by ls b len kind q ≡ cond (has_keys_by ls b len kind (stand_at b len k)) (Open kind k 0) (Finished kind)
     unfolding start_by
     start_by-near l = ap (start_from ls b len kind) ended ∙ rw (lt-ltb k number_limit l)

@@ -6,10 +6,10 @@
 --     spelled_to     the buffer with those written to its front
 --     said_spelled   the answer of a call that writes a path, in 01's numbers
 -- Assumes nothing.
-use Rattle.std.specs.Prelude.{ℕ, zero, suc, ◌+◌, ◌-◌, Bool, cond, ◌&&◌, List, [], ◌∷◌, ◌++◌, length, get_or, drop, set, leb, Option, None, Some, Result, Ok, Err}
+use Rattle.std.specs.Prelude.{ℕ, zero, suc, ◌+◌, ◌-◌, Bool, cond, ◌&&◌, List, [], ◌∷◌, ◌++◌, length, get_or, drop, set, leb, Option, None, Some, Result}
 use Rattle.keymap.specs.Key.{Key}
 use Rattle.keymap.specs.Label.{label_in}
-use Rattle.keymap.specs.Refusals.{refuses}
+use Rattle.keymap.specs.Answers.{said, told_count}
 use Rattle.keymap.specs.declared.refusals.Refusal.{Refusal}
 use Rattle.climbs.specs.Perches.{parent_by}
 
@@ -40,5 +40,4 @@ spelled_to n p out = last_bytes n p ++ drop n out
 
 -- a refusal is its number alone; else 0, and how many bytes were written
 abbrev pub said_spelled : Result ℕ Refusal → List ℕ
-said_spelled (Ok n) = 0 ∷ n ∷ []
-said_spelled (Err r) = refuses r
+said_spelled = said told_count

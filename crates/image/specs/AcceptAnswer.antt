@@ -6,14 +6,14 @@ use Rattle.keymap.specs.Refusals.{refuses}
 use Rattle.keymap.specs.declared.refusals.Refusal.{Refusal}
 use Rattle.keymap.specs.Image.{Image}
 use Rattle.image.specs.AcceptTest.{image_test}
-use Rattle.keymap.specs.Answers.{said}
+use Rattle.keymap.specs.Answers.{said, told_nothing}
 
 -- the answer by the test
 abbrev pub accepted_if : Bool → Result (Unit {0}) Refusal
 accepted_if fits = cond fits (Ok tt) (Err Refusal.NotAnImage)
 
 abbrev pub said_checked : Result (Unit {0}) Refusal → List ℕ
-said_checked = said (λ u. [])
+said_checked = said told_nothing
 
 -- what a call says of an image that some map has, and refusal 6 of any other
 abbrev pub on_image : Image → List ℕ → List ℕ

@@ -6,10 +6,11 @@
 --     of_lent           one of these, of the four buffers that a contract names
 --     CanQueue, ..      what the loops ask
 -- Assumes nothing.
-use Rattle.std.specs.Prelude.{ℕ, ◌+◌, ◌^◌, ◌≤◌, ◌<◌, ◌≡◌, Bool, cond, ◌&&◌, List, [], ◌∷◌, length, get_or, leb, ltb, Result, Ok, Err}
+use Rattle.std.specs.Prelude.{ℕ, ◌+◌, ◌^◌, ◌≤◌, ◌<◌, ◌≡◌, Bool, cond, ◌&&◌, List, [], ◌∷◌, length, get_or, leb, ltb, Result}
 use Rattle.std.specs.Borrow.{MutBor}
 use denote.Triple.Both.{Both}
 use Rattle.keymap.specs.Refusals.{refuses}
+use Rattle.keymap.specs.Answers.{said, told_count}
 use Rattle.keymap.specs.declared.refusals.Refusal.{Refusal}
 use Rattle.keymap.specs.Bits.{words_for}
 use Rattle.keymap.specs.Image.{bits_for}
@@ -21,8 +22,7 @@ use Rattle.keymap.specs.Buffers.{over}
 use Rattle.image.specs.LevelOrder.{child_records, level_records, pool_labels, pool_values, pool_words}
 
 abbrev pub said_built : Result ℕ Refusal → List ℕ
-said_built (Ok n) = 0 ∷ n ∷ []
-said_built (Err r) = refuses r
+said_built = said told_count
 
 -- n nodes besides the root, and the lengths of the label entries, values, words and scratch
 unfoldable pub buffers_fit : (n labels values words scratch : ℕ) → Bool

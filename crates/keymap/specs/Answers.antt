@@ -2,7 +2,8 @@
 -- what it tells.
 --
 --     said           an answer that may be a refusal: its number, or 0 and what the answer tells
---     told_value     what a value found tells, and `told_flag`: yes, or no
+--     told_nothing   what is done tells no more, `told_count`: a count, `told_value`: a value found, `told_flag`: yes
+--                    or no
 --     given          whether something was found
 --     says_value     a value found, or no match
 --     says_flag      yes, or no
@@ -20,6 +21,12 @@ use Rattle.keymap.specs.declared.refusals.Refusal.TheVariants.{KeyRoom}
 abbrev pub said : {T : Type 0} → (T → List ℕ) → Result T Refusal → List ℕ
 said tells (Ok x) = 0 ∷ tells x
 said tells (Err r) = refuses r
+
+abbrev pub told_nothing : Unit {0} → List ℕ
+told_nothing u = []
+
+abbrev pub told_count : ℕ → List ℕ
+told_count n = n ∷ []
 
 abbrev pub told_value : Option ℕ → List ℕ
 told_value None = []

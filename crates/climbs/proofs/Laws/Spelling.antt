@@ -29,7 +29,8 @@ use Rattle.keymap.specs.Steps.{upper}
 use Rattle.keymap.specs.Decode.{image_map}
 use Rattle.keymap.specs.Refusals.{refusal_number}
 use Rattle.keymap.specs.declared.refusals.Refusal.{Refusal}
-use Rattle.keymap.proofs.Laws.Refusals.{refusal-one}
+use Rattle.keymap.specs.Answers.{told_count}
+use Rattle.keymap.proofs.Laws.Answers.{said-one, count-one}
 use Rattle.keymap.proofs.Laws.Key.{bytes-last}
 use Rattle.keymap.proofs.Laws.Begins.{prefix-iff, prefix_refl, prefix_trans, prefix-length}
 use Rattle.keymap.proofs.Laws.Label.{label_in-label_entry}
@@ -198,7 +199,4 @@ module _ (i : Image) (h : MapImage i) where
 -- ---- answers
 
 pub said_spelled-one : (r s : Result ℕ Refusal) → said_spelled r ≡ said_spelled s → r ≡ s
-said_spelled-one (Ok n) (Ok m) e = cc
-said_spelled-one (Ok n) (Err s) e = cc
-said_spelled-one (Err r) (Ok m) e = cc
-said_spelled-one (Err r) (Err s) e = let same : refusal_number r ≡ refusal_number s = cc in ap Err (refusal-one r s same)
+said_spelled-one = said-one told_count count-one

@@ -22,7 +22,8 @@ use Rattle.keymap.specs.Image.{Image}
 use Rattle.std.specs.Prelude.{Result, Ok, Err, IsErrAnd}
 use Rattle.std.proofs.lemmas.Result.{err_from_is_err_and}
 use Rattle.keymap.specs.Answers.{said}
-use Rattle.keymap.proofs.Laws.Answers.{said-one}
+use Rattle.keymap.specs.Answers.{told_nothing}
+use Rattle.keymap.proofs.Laws.Answers.{said-one, nothing-one}
 use Rattle.image.specs.Accept.{OfMap, LentSlices}
 use Rattle.image.specs.AcceptTest.{image_test}
 use Rattle.image.specs.AcceptAnswer.{accepted_if, said_checked, on_image, accept_says}
@@ -70,7 +71,7 @@ pub said-means-map : (i : Image) → LentSlices i → (r : Result (Unit {0}) Ref
 said-means-map i l r e = (λ h. (accept-means-map i l).0 (sym e ∙ h), λ m. e ∙ (accept-means-map i l).1 m)
 
 pub said-checked-one : (r s : Result (Unit {0}) Refusal) → said_checked r ≡ said_checked s → r ≡ s
-said-checked-one = said-one (λ u. []) (λ x y e. refl)
+said-checked-one = said-one told_nothing nothing-one
 
 -- the test by the answer
 pub accepted-ok : (t : Bool) (u : Unit {0}) → accepted_if t ≡ Ok u → t ≡ true

@@ -25,10 +25,11 @@ use Rattle.records.specs.Sound.{Sound}
 use Rattle.records.specs.SoundTest.{sound_test, check_sound}
 use Rattle.records.proofs.Laws.SoundTest.{sound-test}
 use Rattle.pool.specs.Answers.{said_counted, accepted}
-use Rattle.pool.proofs.Laws.Answers.{said-counted-one}
 use Rattle.std.specs.Prelude.{Result, Ok, Err}
 use Rattle.keymap.specs.Buffers.{over}
 use Rattle.image.specs.LevelOrder.{level_records, pool_labels, pool_values, pool_words}
+use Rattle.keymap.specs.Answers.{told_count}
+use Rattle.keymap.proofs.Laws.Answers.{said-one, count-one}
 use Rattle.image.specs.Build.{said_built, buffers_fit, fit_says, build_says, build_labels, build_values, build_words, build_scratch, CanTell}
 use Rattle.keymap.proofs.Laws.Buffers.{length_over, get_d_over, take-over}
 use Rattle.image.proofs.Laws.LevelOrder.{level-count, level-used, get_or-in}
@@ -132,9 +133,5 @@ module _ (p : Pool) (s : Sound p) (n : ℕ) (count : n ≡ used_count p) (queue 
 
 -- ---- the answer
 
-built-is : (r : Result ℕ Refusal) → said_counted r ≡ said_built r
-built-is (Ok n) = refl
-built-is (Err r) = refl
-
 pub said-built-one : (r s : Result ℕ Refusal) → said_built r ≡ said_built s → r ≡ s
-said-built-one r s e = said-counted-one r s (built-is r ∙ e ∙ sym (built-is s))
+said-built-one = said-one told_count count-one

@@ -3,7 +3,7 @@
 --     written-fits     it is written
 --     written-short    the buffer is shorter, and stays
 --     said-one         what is said gives the answer back, if what it tells does
---     value-one        a value found is told by its number, and `flag-one`: yes by a 1
+--     nothing-one, count-one, value-one, flag-one  what is told gives back: nothing, a count, a value found, yes or no
 -- Assumes nothing.
 use Rattle.std.specs.Prelude.{Option, None, Some, Result, Ok, Err}
 use mathlib.Core.Path.{◌≡◌, refl, sym, ap}
@@ -18,7 +18,7 @@ use Rattle.keymap.specs.Buffers.{over}
 use Rattle.keymap.specs.Refusals.{refuses}
 use Rattle.keymap.specs.declared.refusals.Refusal.TheVariants.{KeyRoom}
 use Rattle.keymap.specs.declared.refusals.Refusal.{Refusal}
-use Rattle.keymap.specs.Answers.{said, told_value, told_flag, says_written, written_to}
+use Rattle.keymap.specs.Answers.{said, told_nothing, told_count, told_value, told_flag, says_written, written_to}
 use Rattle.keymap.proofs.Laws.Refusals.{refusal-one, no_zero}
 
 pub record KeyWritten (k : Key) (out : List ℕ) (says : List ℕ) (after : List ℕ) : Type 0 where
@@ -39,6 +39,12 @@ module _ {T : Type 0} (tells : T → List ℕ) (one : (x y : T) → tells x ≡ 
   said-one (Err r) (Err s) e = ap Err (refusal-one r s (head-eq_of_cons-eq e))
   said-one (Ok x) (Err s) e = absurd (no_zero s (head-eq_of_cons-eq e))
   said-one (Err r) (Ok y) e = absurd (no_zero r (sym (head-eq_of_cons-eq e)))
+
+pub nothing-one : (x y : Unit {0}) → told_nothing x ≡ told_nothing y → x ≡ y
+nothing-one x y e = refl
+
+pub count-one : (x y : ℕ) → told_count x ≡ told_count y → x ≡ y
+count-one x y e = head-eq_of_cons-eq e
 
 pub value-one : (x y : Option ℕ) → told_value x ≡ told_value y → x ≡ y
 value-one None None e = refl

@@ -3,22 +3,21 @@
 --     said-parsed-one, said-cut-one, said-written-one  equal numbers mean equal answers
 -- Assumes nothing.
 use Prim.Native.Nat.{ℕ}
-use mathlib.Core.Path.{◌≡◌, refl, ap}
-use Rattle.std.specs.Prelude.{Option, None, Some, Result, Ok, Err}
+use mathlib.Core.Path.{◌≡◌, refl}
+use mathlib.Core.List.{head-eq_of_cons-eq, tail-eq_of_cons-eq}
+use Rattle.std.specs.Prelude.{Option, None, Some, Result}
 use Rattle.keymap.specs.declared.refusals.Refusal.{Refusal}
-use Rattle.keymap.proofs.Laws.Refusals.{refusal-one}
+use Rattle.keymap.specs.Answers.{told_count}
+use Rattle.keymap.proofs.Laws.Answers.{said-one, count-one}
 use Rattle.lines.specs.declared.answers.Parsed.{Parsed}
 use Rattle.lines.specs.declared.answers.Cut.{Cut}
-use Rattle.lines.specs.Answers.{said_parsed, said_cut, said_written}
+use Rattle.lines.specs.Answers.{told_line, said_parsed, said_cut, said_written}
+
+line-one : (p q : Parsed) → told_line p ≡ told_line q → p ≡ q
+line-one p q e = λ i. record { key_len = head-eq_of_cons-eq e i; number = head-eq_of_cons-eq (tail-eq_of_cons-eq e) i }
 
 pub said-parsed-one : (r s : Result Parsed Refusal) → said_parsed r ≡ said_parsed s → r ≡ s
-said-parsed-one (Ok e) (Ok d) q =
-    let key : e.key_len ≡ d.key_len = cc in
-    let number : e.number ≡ d.number = cc in
-    λ i. Ok (record { key_len = key i; number = number i })
-said-parsed-one (Ok e) (Err r) q = cc
-said-parsed-one (Err r) (Ok e) q = cc
-said-parsed-one (Err r) (Err s) q = ap Err (refusal-one r s cc)
+said-parsed-one = said-one told_line line-one
 
 pub said-cut-one : (r s : Option Cut) → said_cut r ≡ said_cut s → r ≡ s
 said-cut-one (Some l) (Some k) q =
@@ -30,7 +29,4 @@ said-cut-one None (Some l) q = cc
 said-cut-one None None q = refl
 
 pub said-written-one : (r s : Result ℕ Refusal) → said_written r ≡ said_written s → r ≡ s
-said-written-one (Ok n) (Ok m) q = ap Ok cc
-said-written-one (Ok n) (Err r) q = cc
-said-written-one (Err r) (Ok n) q = cc
-said-written-one (Err r) (Err s) q = ap Err (refusal-one r s cc)
+said-written-one = said-one told_count count-one

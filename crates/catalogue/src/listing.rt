@@ -50,6 +50,7 @@ fn list_image(labels: &[u16], values: &[u32], words: &[u64], out: &mut [u8]) -> 
     ensures answer { result ≡ length (map_text (image_map (lent_image labels values words))) }
     ensures out { out.new ≡ over (map_text (image_map (lent_image labels values words))) out.old }
 {
+    // no call is refused on a map's image, in a buffer that holds the listing
     let Ok(mut cursor) = predictive_search(labels, values, words, b"") else {
         return 0;
     };

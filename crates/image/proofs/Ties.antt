@@ -9,7 +9,7 @@ use mathlib.Core.List.{[], ◌∷◌}
 use Rattle.image.specs.Accept.{OfMap}
 use Rattle.image.specs.Meaning.{image_in}
 use Rattle.image.specs.AcceptTest.{lengths_fit, image_test}
-use Rattle.image.specs.AcceptAnswer.{said_checked, accept_says}
+use Rattle.image.specs.AcceptAnswer.{accepted_if, said_checked, accept_says}
 use Rattle.image.specs.Build.{said_built, build_says, build_labels, build_values, build_words, build_scratch}
 use Rattle.image.proofs.acceptance.is_image.Kinds as is-image-kinds
 use Rattle.image.proofs.acceptance.is_image.Reads as is-image-reads
@@ -28,8 +28,9 @@ is-image-says κs a r s p = p
 pub lengths-fit-says : Tells 3 lengths-fit-kinds.ps lengths-fit-kinds.r lengths-fit-reads.Post (λ κs a r s. r ≡ lengths_fit (image_in a.0 a.1.0 a.1.1.0))
 lengths-fit-says κs a r s p = p
 
-pub accept-says : Tells 3 accept-kinds.ps accept-kinds.r accept-reads.Post (λ κs a r s. (said_checked r ≡ accept_says (image_in a.0 a.1.0 a.1.1.0)) × ((said_checked r ≡ 0 ∷ []) ↔ OfMap (image_in a.0 a.1.0 a.1.1.0)))
-accept-says κs a r s p = p.1
+pub accept-says : Tells 3 accept-kinds.ps accept-kinds.r accept-reads.Post (λ κs a r s.
+    (r ≡ accepted_if (image_test (image_in a.0 a.1.0 a.1.1.0))) × (said_checked r ≡ accept_says (image_in a.0 a.1.0 a.1.1.0)) × ((said_checked r ≡ 0 ∷ []) ↔ OfMap (image_in a.0 a.1.0 a.1.1.0)))
+accept-says κs a r s p = p
 
 pub build-says : Tells 5 build-kinds.ps build-kinds.r build-reads.Post (λ κs a r s.
     (said_built r ≡ build_says a.0.now a.1.0.now a.1.1.0.now a.1.1.1.0.now a.1.1.1.1.0.now)

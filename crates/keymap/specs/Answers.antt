@@ -9,7 +9,6 @@
 --     says_flag      yes, or no
 --     says_written   a key that is to be written to a lent buffer, and `written_to`: the buffer afterwards
 --     written_key    the buffer where there may be no key
---     answer_number  the number that an answer begins with: that of a refusal, 0 of every other
 -- Assumes nothing.
 use Rattle.std.specs.Prelude.{ℕ, Bool, true, false, cond, List, [], ◌∷◌, length, leb, Option, None, Some, Result, Ok, Err}
 use Rattle.keymap.specs.Key.{Key}
@@ -57,7 +56,3 @@ written_to k out = cond (leb (length k) (length out)) (over k out) out
 abbrev pub written_key : Option Key → List ℕ → List ℕ
 written_key None out = out
 written_key (Some k) out = written_to k out
-
-abbrev pub answer_number : List ℕ → ℕ
-answer_number [] = 0
-answer_number (n ∷ ns) = n

@@ -3,7 +3,7 @@
 --     In            an element is one of a list's, at the head (`here`) or behind it (`there`)
 --     Ordered       each element stands in a relation to every one behind it
 --     Distinct      no element comes twice
---     head_of      the first element, where there is one
+--     head_of       the first element, where there is one
 -- Assumes nothing.
 use Rattle.std.specs.Prelude.{◌≡◌, List, [], ◌∷◌, Option, None, Some}
 pub use mathlib.Core.List.Memᴰ.{head as here}

@@ -12,7 +12,8 @@ pub enum Kind {
 // Where a listing stands.
 #[derive(Clone, Copy, Debug, PartialEq, Eq)]
 pub enum Cursor {
-    // Below the node `top`; `last` is the node given last, 0 before the first step.
+    // Below the node `top`; `last` is the node given last, 0 before the first step: a cursor is numbers alone, which a
+    // caller can keep.
     Open { kind: Kind, top: u32, last: u32 },
     Finished { kind: Kind },
 }
@@ -37,7 +38,7 @@ impl Cursor {
     }
 }
 
-// A step of a listing.
+// A step of a listing. Both cases hand back a cursor, so it is no Option.
 #[derive(Clone, Copy, Debug, PartialEq, Eq)]
 pub enum Stepped {
     // The least key of the set above the last one given: its node and value, and the cursor to go on with.

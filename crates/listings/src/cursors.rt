@@ -148,7 +148,7 @@ fn listing(
 ) -> Result<Cursor, Refusal>
     ensures answer { said_started result ≡ start_says kind (lent_image labels values words) query.now }
 {
-    accept(labels, values, words)?;
+    accept(labels, values, words)?; // for the empty query too
     let len = 2 * labels.len() + 3;
     Ok(start(labels, words, len, kind, query))
 }

@@ -41,7 +41,7 @@ pub fn exact_match(
 ) -> Result<Option<u32>, Refusal>
     ensures answer { said_looked result ≡ exact_says (lent_image labels values words) query.now }
 {
-    accept(labels, values, words)?;
+    accept(labels, values, words)?; // for the empty query too
     Ok(value_of(labels, values, words, query))
 }
 
@@ -57,7 +57,7 @@ pub fn set_value(
     ensures written { values.new
         ≡ set_values (as_image labels.now values.old words.now) query.now value }
 {
-    accept(labels, values, words)?;
+    accept(labels, values, words)?; // before anything is written
     let Some(key) = find(labels, values, words, query) else {
         return Ok(None);
     };
@@ -87,6 +87,6 @@ pub fn is_prefix(
 ) -> Result<bool, Refusal>
     ensures answer { said_prefixed result ≡ is_prefix_says (lent_image labels values words) query.now }
 {
-    accept(labels, values, words)?;
+    accept(labels, values, words)?; // and for a query that leads nowhere
     Ok(goes_on(labels, words, query))
 }

@@ -5,7 +5,7 @@ ghost use Rattle.walks.specs.Rule.{is_node_of, counts_to, matches, value_of_node
 use image::MARK;
 
 // A node that is a key's, with the key's value.
-#[derive(Clone, Copy)]
+#[derive(Clone, Copy, Debug, PartialEq, Eq)]
 pub struct KeyNode {
     pub node: usize,
     pub value: u32,

@@ -12,7 +12,8 @@ use louds::{zero_at, zero_from};
 #[derive(Clone, Copy)]
 pub struct Stand {
     pub node: usize,
-    // Where the node's zero is, or the end of the bits; its children are the ones behind it.
+    // Where the node's zero is, or the end of the bits, behind which nothing stands; its children are the ones behind
+    // it.
     pub zero: usize,
 }
 

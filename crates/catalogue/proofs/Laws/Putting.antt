@@ -1,13 +1,11 @@
 -- Laws of what is put into a buffer, one text behind the other.
 --
 --     over-at              a text put at a place, as more of what stands before it
---     put-none, put-turn   nothing yet, and one byte more of a text
 --     fewest-decimal       the fewest digits that hold a number are its decimal
 --     Put, put_front       a text at a buffer's start
 --     put-behind           texts put one behind the other are one text, and `put-from`: behind what stands before a
 --                          place
 --     put_refused          the text of a refusal, and `length-parts`, `length-refused`: its length, at most 55 bytes
---     put-value            what stands behind the key in the text of an entry
 -- Assumes nothing.
 use mathlib.Core.Path.{◌≡◌, refl, sym, ap, subst, ◌∙◌}
 use Prim.Native.Nat.{ℕ, zero, suc, ◌+◌, ◌/◌, ◌%◌, ◌^◌, ◌≤◌, ◌<◌}

@@ -64,10 +64,15 @@ module _ (p : Pool) (key : Key) where
   unfolding push_says
   push-tested h e = simp (le-ltb _ _ h, e)
 
+  -- a refusal leaves the pool as it was
+  pub push-refused : (v : ℕ) (r : Result (Unit {0}) Refusal) → said_pushed r ≡ push_says p key → accepted (said_pushed r) ≡ false → p ≡ push_pool p key v
+  unfolding push_pool
+  push-refused v r e f = rw (← e, f)
+
   -- a refusal of the pool is the push's, and leaves the pool as it was
-  pub push-refused : (v : ℕ) (r : Refusal) → check_sound p ≡ Err r → (refuses r ≡ push_says p key) × (p ≡ push_pool p key v)
+  pub push-unchecked : (v : ℕ) (r : Refusal) → check_sound p ≡ Err r → (refuses r ≡ push_says p key) × (p ≡ push_pool p key v)
   unfolding check_sound push_says push_pool
-  push-refused v r e = go (ltb (length p) record_words) (sound_test p) e
+  push-unchecked v r e = go (ltb (length p) record_words) (sound_test p) e
     where
       go : (t u : Bool) → cond t (Err Refusal.PoolTooSmall) (cond u (Ok (tt {0})) (Err Refusal.NotAPool)) ≡ Err r
           → (refuses r ≡ cond t (refuses Refusal.PoolTooSmall) (cond u (tested_says p key) (refuses Refusal.NotAPool)))

@@ -4,13 +4,13 @@ use Rattle.std.proofs.Common.{rules}
 use Rattle.std.specs.Prelude.{Err}
 use Rattle.records.proofs.Laws.SoundTest.{passed-test}
 use Rattle.pool.specs.Answers.{said_pushed}
-use Rattle.pool.proofs.Laws.Push.{push-refused, push-tested, push-left}
+use Rattle.pool.proofs.Laws.Push.{push-unchecked, push-tested, push-left}
 use Rattle.pool.proofs.push.Goals as goal
 
 pub returns-in_err-check_sound : goal.returns-in_err-check_sound
 returns-in_err-check_sound c =
     let e : c.from_residual.result ≡ Err c.in_err-check_sound.field-0.0 = search rules in
-    let d = push-refused _ _ c.args.value _ (sym c.check_sound.ensures.answer ∙ c.in_err-check_sound.was) in
+    let d = push-unchecked _ _ c.args.value _ (sym c.check_sound.ensures.answer ∙ c.in_err-check_sound.was) in
     record { answer = ap said_pushed e ∙ d.0; left = d.1 }
 
 pub returns : goal.returns

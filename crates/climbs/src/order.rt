@@ -14,17 +14,17 @@ use crate::perches::{Perch, parent_of, perch_at};
 use louds::{bit_at, zero_from};
 use walks::entries::{KeyNode, counts_to, value_at};
 
-#[tactic(auto, unfolding(crate::specs::Order::one_behind))]
 // Whether a one stands right behind a place, inside the bits.
+#[tactic(auto, unfolding(crate::specs::Order::one_behind))]
 fn one_behind(words: &[u64], len: usize, place: usize) -> bool
     ensures { result ≡ one_behind (bit words.now) len place }
 {
     place < len && place + 1 < len && bit_at(words, place + 1) == 1
 }
 
-#[tactic(auto, unfolding(crate::specs::Moves::leads))]
 // Whether a node whose one is at a place may have a child that counts: fewer zeros than its number stand before its
 // one.
+#[tactic(auto, unfolding(crate::specs::Moves::leads))]
 fn leads_down(len: usize, node: usize, one: usize) -> bool
     ensures { result ≡ leads len node one }
 {
@@ -32,8 +32,8 @@ fn leads_down(len: usize, node: usize, one: usize) -> bool
     one < len && node != 0 && node <= one + 1 && one + 1 - node < node
 }
 
-#[tactic(auto, unfolding(crate::specs::Moves::first_from, crate::specs::Moves::leads, crate::specs::Order::one_behind))]
 // The first child of a node. Its one stands right behind the node's zero, which lies ahead of the node's one.
+#[tactic(auto, unfolding(crate::specs::Moves::first_from, crate::specs::Moves::leads, crate::specs::Order::one_behind))]
 fn first_child(words: &[u64], len: usize, last: usize, at: Perch) -> Option<Perch>
     ensures { result ≡ first_from (bit words.now) len last at }
 {
@@ -55,8 +55,8 @@ fn first_child(words: &[u64], len: usize, last: usize, at: Perch) -> Option<Perc
     })
 }
 
-#[tactic(auto, unfolding(crate::specs::Moves::beside_from, crate::specs::Order::one_behind))]
 // The next sibling of a node. Its one stands right behind the node's own.
+#[tactic(auto, unfolding(crate::specs::Moves::beside_from, crate::specs::Order::one_behind))]
 fn beside(words: &[u64], len: usize, last: usize, at: Perch) -> Option<Perch>
     ensures { result ≡ beside_from (bit words.now) len last at }
 {

@@ -30,8 +30,8 @@ pub fn perch_at(words: &[u64], len: usize, node: usize) -> Perch
     }
 }
 
-#[tactic(auto, unfolding(crate::specs::Perches::has_parent))]
 // Whether the parent of a node whose one is at a place has a number from 1 to the node's less 1.
+#[tactic(auto, unfolding(crate::specs::Perches::has_parent))]
 fn has_parent(len: usize, node: usize, one: usize) -> bool
     ensures { result ≡ has_parent len node one }
 {
@@ -39,8 +39,8 @@ fn has_parent(len: usize, node: usize, one: usize) -> bool
     one < len && node != 0 && node <= one && one - (node - 1) < node
 }
 
-#[tactic(auto, unfolding(crate::specs::Perches::parent_from, crate::specs::Perches::has_parent))]
 // The parent of a perch: its number is the count of zeros before the node's one.
+#[tactic(auto, unfolding(crate::specs::Perches::parent_from, crate::specs::Perches::has_parent))]
 pub fn parent_of(words: &[u64], len: usize, at: Perch) -> Option<Perch>
     ensures { result ≡ parent_from (bit words.now) len at }
 {

@@ -15,18 +15,18 @@ fn label_in(entry: u16) -> u8
     (entry % MARK) as u8
 }
 
-#[tactic(auto, unfolding(crate::specs::Spelling::has_entry))]
 // Node m of 2 or more has entry m-2.
+#[tactic(auto, unfolding(crate::specs::Spelling::has_entry))]
 fn has_entry(labels: &[u16], node: usize) -> bool
     ensures { result ≡ has_entry (length labels.now) node }
 {
     2 <= node && node <= labels.len() + 1
 }
 
-#[tactic(auto, unfolding(crate::specs::Spelling::has_entry))]
 // Writes the last `count` labels on the way down to a node to the front of a buffer; the bytes past them stay, and a
 // buffer that is shorter stays whole.
 // The climb ends early at a node that has no entry or no parent.
+#[tactic(auto, unfolding(crate::specs::Spelling::has_entry))]
 pub fn spell(labels: &[u16], words: &[u64], len: usize, node: usize, count: usize, out: &mut [u8])
     ensures { out.new
         ≡ spelled_by labels.now (bit words.now) len node count out.old }

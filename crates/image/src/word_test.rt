@@ -83,7 +83,7 @@ fn leaves_fit(labels: &[u16], zeros: u64, lone: u64, before: usize) -> bool
     }
     let mut rest = zeros;
     let mut m = before;
-    // the first zero closes no node, the second the root
+    // the first zero closes no node, the second the root; `m` goes on in the loop below, which a `for` would not let it
     while m < 2 {
         if rest == 0 {
             return true;

@@ -21,8 +21,8 @@ use keymap::Refusal;
 use walks::entries::{KeyNode, is_node, value_at};
 use walks::stands::{Stand, kids};
 
-#[tactic(auto, unfolding(crate::specs::Numbers::in_set_by))]
 // Whether a node is that of a key of a top's set. A postfix set leaves out the top's own.
+#[tactic(auto, unfolding(crate::specs::Numbers::in_set_by))]
 fn in_set(
     labels: &[u16],
     values: &[u32],
@@ -38,8 +38,8 @@ fn in_set(
     !left_out && value_at(labels, values, node).is_some() && is_below(words, len, top, node)
 }
 
-#[tactic(auto, unfolding(crate::specs::Numbers::stands_by))]
 // Whether the numbers of an open cursor belong to the image.
+#[tactic(auto, unfolding(crate::specs::Numbers::stands_by))]
 pub fn stands(
     labels: &[u16],
     values: &[u32],
@@ -69,8 +69,8 @@ pub fn stands(
         )
 }
 
-#[tactic(auto, unfolding(crate::specs::Numbers::first_given_by))]
 // The first key that begins with the top's path: its own, if it has a value.
+#[tactic(auto, unfolding(crate::specs::Numbers::first_given_by))]
 fn first_given(
     labels: &[u16],
     values: &[u32],
@@ -86,8 +86,8 @@ fn first_given(
     }
 }
 
-#[tactic(auto, unfolding(crate::specs::Numbers::next_given_by))]
 // What the next step of an open cursor gives.
+#[tactic(auto, unfolding(crate::specs::Numbers::next_given_by))]
 fn next_given(
     labels: &[u16],
     values: &[u32],
@@ -122,8 +122,8 @@ fn has_keys(labels: &[u16], words: &[u64], len: usize, kind: Kind, s: Stand) -> 
     }
 }
 
-#[tactic(auto, unfolding(crate::specs::Numbers::start_by))]
 // The cursor that a listing starts with, on any bits. Its numbers have 32 bits.
+#[tactic(auto, unfolding(crate::specs::Numbers::start_by))]
 fn start(labels: &[u16], words: &[u64], len: usize, kind: Kind, query: &[u8]) -> Cursor
     ensures { result ≡ start_by labels.now (bit words.now) len kind query.now }
 {

@@ -13,8 +13,8 @@ use keymap::Refusal;
 use walks::entries::{KeyNode, value_at};
 use walks::stands::kids;
 
-#[tactic(auto, unfolding(crate::specs::Exact::keyed_in))]
 // The node and the value of a key, by R-7's rule: the image is not tested.
+#[tactic(auto, unfolding(crate::specs::Exact::keyed_in))]
 pub fn find(labels: &[u16], values: &[u32], words: &[u64], query: &[u8]) -> Option<KeyNode>
     ensures { result ≡ keyed_in (lent_image labels values words) query.now }
 {
@@ -65,8 +65,8 @@ pub fn set_value(
     Ok(Some(key.value))
 }
 
-#[tactic(auto, unfolding(crate::specs::Exact::goes_on))]
 // Whether the node at a query has children.
+#[tactic(auto, unfolding(crate::specs::Exact::goes_on))]
 fn goes_on(labels: &[u16], words: &[u64], query: &[u8]) -> bool
     ensures { result ≡ goes_on labels.now words.now query.now }
 {

@@ -10,8 +10,8 @@ use crate::exact::value_of;
 use image::lengths_fit;
 use keymap::Refusal;
 
-#[tactic(auto, unfolding(crate::specs::Untested::untested_says))]
 // The value of a key in the first 2n+3 bits, whatever they are. The empty query is no key.
+#[tactic(auto, unfolding(crate::specs::Untested::untested_says))]
 pub fn exact_match_untested(
     labels: &[u16],
     values: &[u32],

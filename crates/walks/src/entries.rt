@@ -11,8 +11,8 @@ pub struct KeyNode {
     pub value: u32,
 }
 
-#[tactic(auto, unfolding(crate::specs::Rule::is_node_of))]
 // Whether a number is a node's: 1 to n+1.
+#[tactic(auto, unfolding(crate::specs::Rule::is_node_of))]
 pub fn is_node(labels: &[u16], node: u32) -> bool
     ensures { result ≡ is_node_of (length labels.now) node }
 {
@@ -36,8 +36,8 @@ pub fn entry_matches(entry: u16, label: u8) -> bool
     entry & UNMARKED == label as u16
 }
 
-#[tactic(auto, unfolding(crate::specs::Rule::value_of_node))]
 // The value of a node. The root has none, nor has a node with an entry of 512 or more.
+#[tactic(auto, unfolding(crate::specs::Rule::value_of_node))]
 pub fn value_at(labels: &[u16], values: &[u32], node: usize) -> Option<u32>
     ensures { result ≡ value_of_node labels.now values.now node }
 {

@@ -13,8 +13,8 @@ pub struct Glided {
     pub steps: usize,
 }
 
-#[tactic(auto, unfolding(crate::specs::Glide::goes_through, crate::specs::Glide::only_kid))]
 // The only child of a node without value, if it counts. Then its number is higher, so that a glide ends on any bits.
+#[tactic(auto, unfolding(crate::specs::Glide::goes_through, crate::specs::Glide::only_kid))]
 fn onward(labels: &[u16], values: &[u32], words: &[u64], len: usize, s: Stand) -> Option<Stand>
     ensures { result
         ≡ onward_from labels.now values.now (bit words.now) len s }

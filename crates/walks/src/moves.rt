@@ -6,8 +6,8 @@ ghost use Rattle.walks.specs.Stands.{down_from};
 use crate::siblings::child_within;
 use crate::stands::{Stand, kid_at, kids};
 
-#[tactic(auto, unfolding(crate::specs::Stands::down_from))]
 // One step down: the child with a label.
+#[tactic(auto, unfolding(crate::specs::Stands::down_from))]
 pub fn down(labels: &[u16], words: &[u64], len: usize, s: Stand, label: u8) -> Option<Stand>
     ensures { result ≡ down_from labels.now (bit words.now) len s label }
 {

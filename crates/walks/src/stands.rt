@@ -26,17 +26,17 @@ pub fn stand_at(words: &[u64], len: usize, node: usize) -> Stand
     }
 }
 
-#[tactic(auto, unfolding(crate::specs::Stands::is_stand))]
 // Whether a zero can be a node's: it is inside, and as many zeros as the node says can stand up to it.
+#[tactic(auto, unfolding(crate::specs::Stands::is_stand))]
 fn is_stand(len: usize, node: usize, zero: usize) -> bool
     ensures { result ≡ is_stand len node zero }
 {
     zero < len && node != 0 && node <= zero + 1
 }
 
-#[tactic(auto, unfolding(crate::specs::Stands::kids_from, crate::specs::Stands::is_stand))]
 // The children of a stand: the ones behind its zero, up to the next zero or the end. A stand that cannot be one has
 // none.
+#[tactic(auto, unfolding(crate::specs::Stands::kids_from, crate::specs::Stands::is_stand))]
 pub fn kids(words: &[u64], len: usize, s: Stand) -> Kids
     ensures { result ≡ kids_from (bit words.now) len s }
 {
@@ -56,8 +56,8 @@ pub fn kids(words: &[u64], len: usize, s: Stand) -> Kids
     }
 }
 
-#[tactic(auto, unfolding(crate::specs::Stands::kid_from))]
 // The stand at node m, a child of node k: its zero is looked for from the one behind the children of k on.
+#[tactic(auto, unfolding(crate::specs::Stands::kid_from))]
 pub fn kid_at(words: &[u64], len: usize, k: usize, next: usize, m: usize) -> Stand
     ensures { result ≡ kid_from (bit words.now) len k next m }
 {

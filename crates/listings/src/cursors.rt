@@ -21,9 +21,6 @@ use keymap::Refusal;
 use walks::entries::{KeyNode, is_node, value_at};
 use walks::stands::{Stand, kids};
 
-// A cursor's numbers have 32 bits.
-const MOST_NUMBER: usize = u32::MAX as usize;
-
 // Whether a node is that of a key of a top's set. A postfix set leaves out the top's own.
 #[tactic(auto, unfolding(crate::specs::Numbers::in_set_by))]
 fn in_set(
@@ -125,15 +122,16 @@ fn has_keys(labels: &[u16], words: &[u64], len: usize, kind: Kind, s: Stand) -> 
     }
 }
 
-// The cursor that a listing starts with, on any bits.
+// The cursor that a listing starts with, on any bits. Its numbers have 32 bits.
 #[tactic(auto, unfolding(crate::specs::Numbers::start_by))]
 fn start(labels: &[u16], words: &[u64], len: usize, kind: Kind, query: &[u8]) -> Cursor
     ensures { result ≡ start_by labels.now (bit words.now) len kind query.now }
 {
-    match walk(labels, words, len, query) {
-        Some(s) if s.node <= MOST_NUMBER && has_keys(labels, words, len, kind, s) => {
-            Cursor::top(kind, s.node as u32)
-        }
+    let Some(s) = walk(labels, words, len, query) else {
+        return Cursor::finished(kind);
+    };
+    match u32::try_from(s.node) {
+        Ok(top) if has_keys(labels, words, len, kind, s) => Cursor::top(kind, top),
         _ => Cursor::finished(kind),
     }
 }
@@ -153,7 +151,8 @@ fn listing(
     Ok(start(labels, words, len, kind, query))
 }
 
-// A cursor over the keys that begin with a query, finished where there are none.
+// A cursor over the keys that begin with a query, finished where there are none. Each kind has a call of the name that
+// the documents give it.
 pub fn predictive_search(
     labels: &[u16],
     values: &[u32],

@@ -9,7 +9,7 @@
 --     given_len-path              the length of a key in a listing
 -- Assumes nothing.
 use mathlib.Core.Path.{◌≡◌, refl, sym, ap, ◌∙◌}
-use Prim.Native.Nat.{ℕ, zero, suc, ◌≤◌, ◌<◌}
+use Prim.Native.Nat.{ℕ, zero, suc, ◌<◌}
 use native.Mathlib.Decide.{ℕ_discrete}
 use native.Mathlib.Omega.{arith}
 use mathlib.Core.Bool.{Bool, true, false, cond, ◌&&◌}
@@ -17,7 +17,7 @@ use mathlib.Core.List.{List}
 use Rattle.keymap.specs.Members.{head_of}
 use Rattle.std.specs.Prelude.{Option, None, Some}
 use lib.ListN.{length}
-use borrow.Author.Tests.{lt-ltb, le-ltb, eq-eqb, ne_eqb}
+use borrow.Author.Tests.{lt-ltb, eq-eqb, ne_eqb}
 use Rattle.keymap.specs.Answers.{given}
 use Rattle.keymap.specs.Key.{Key, extends}
 use Rattle.keymap.specs.Map.{Map, lookup}

@@ -112,8 +112,8 @@ pub fn query_until(
     moved.answer
 }
 
-// Moves a place to the longest common prefix of the longer keys that begin with its path, and answers how many labels it
-// moved: Ok if it is a key, Err if it is none. Where there are no such keys the place stays, which is Ok of 0.
+// Moves a place to the longest common prefix of the longer keys that begin with its path, and answers how many labels
+// it moved: Ok if it is a key, Err if it is none. Where there are no such keys the place stays, which is Ok of 0.
 pub fn goto_longest_prefix(
     labels: &[u16],
     values: &[u32],

@@ -6,6 +6,7 @@
 -- `query` says it, or nothing more where there is no such child; of the others Ok says 0 and what it holds, Err 1 and
 -- what it holds.
 --
+--     checked_place  which refusal a call answers, if any
 --     path_says     what a path is: some longer key begins with it, and it is a key
 --     query_says    "Query moves or, with no such child, stays", and `query_moves`: where it leaves the place
 --     walkable      how many labels of a query lead on from a path

@@ -18,7 +18,6 @@ use Rattle.image.specs.contracts.build
 use Rattle.image.proofs.build.Kinds as build-kinds
 use Rattle.image.proofs.build.Reads as build-reads
 use Rattle.image.proofs.Laws.Build.{said-built-one}
-use Rattle.image.proofs.Laws.AcceptAnswer.{said-checked-one}
 use Rattle.image.specs.contracts.buffers.words_for as words-for
 use Rattle.image.proofs.buffers.words_for.Kinds as words-for-kinds
 use Rattle.image.proofs.buffers.words_for.Reads as words-for-reads

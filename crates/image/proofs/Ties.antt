@@ -30,7 +30,7 @@ lengths-fit-says κs a r s p = p
 
 pub accept-says : Tells 3 accept-kinds.ps accept-kinds.r accept-reads.Post (λ κs a r s.
     (r ≡ accepted_if (image_test (image_in a.0 a.1.0 a.1.1.0))) × (said_checked r ≡ accept_says (image_in a.0 a.1.0 a.1.1.0)) × ((said_checked r ≡ 0 ∷ []) ↔ OfMap (image_in a.0 a.1.0 a.1.1.0)))
-accept-says κs a r s p = p
+accept-says κs a r s p = (p.0, p.1.0, p.1.1)
 
 pub build-says : Tells 5 build-kinds.ps build-kinds.r build-reads.Post (λ κs a r s.
     (said_built r ≡ build_says a.0.now a.1.0.now a.1.1.0.now a.1.1.1.0.now a.1.1.1.1.0.now)

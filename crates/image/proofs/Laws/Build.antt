@@ -24,7 +24,7 @@ use Rattle.records.specs.Words.{Pool, record_words, entry, value, used_count}
 use Rattle.records.specs.Sound.{Sound}
 use Rattle.records.specs.SoundTest.{sound_test, check_sound}
 use Rattle.records.proofs.Laws.SoundTest.{sound-test}
-use Rattle.pool.specs.Answers.{said_counted, accepted}
+use Rattle.pool.specs.Answers.{accepted}
 use Rattle.std.specs.Prelude.{Result, Ok, Err}
 use Rattle.keymap.specs.Buffers.{over}
 use Rattle.image.specs.LevelOrder.{level_records, pool_labels, pool_values, pool_words}

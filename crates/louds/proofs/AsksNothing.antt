@@ -11,18 +11,18 @@ use Rattle.louds.specs.contracts.rank.zeros_before
 use Rattle.louds.proofs.rank.zeros_before.Reads as zeros-before-reads
 use Rattle.louds.specs.contracts.select.lowest_one
 use Rattle.louds.proofs.select.lowest_one.Reads as lowest-one-reads
-use Rattle.louds.specs.contracts.select.zero_at
-use Rattle.louds.proofs.select.zero_at.Reads as zero-at-reads
-use Rattle.louds.specs.contracts.select.zero_from
-use Rattle.louds.proofs.select.zero_from.Reads as zero-from-reads
-use Rattle.louds.specs.contracts.select.one_at
-use Rattle.louds.proofs.select.one_at.Reads as one-at-reads
+use Rattle.louds.specs.contracts.bits.Sequence.zero_at
+use Rattle.louds.proofs.bits.Sequence.zero_at.Reads as zero-at-reads
+use Rattle.louds.specs.contracts.bits.Sequence.zero_from
+use Rattle.louds.proofs.bits.Sequence.zero_from.Reads as zero-from-reads
+use Rattle.louds.specs.contracts.bits.Sequence.one_at
+use Rattle.louds.proofs.bits.Sequence.one_at.Reads as one-at-reads
 use Rattle.louds.specs.contracts.select.one_back
 use Rattle.louds.proofs.select.one_back.Reads as one-back-reads
-use Rattle.louds.specs.contracts.nodes.children
-use Rattle.louds.proofs.nodes.children.Reads as children-reads
-use Rattle.louds.specs.contracts.nodes.parent
-use Rattle.louds.proofs.nodes.parent.Reads as parent-reads
+use Rattle.louds.specs.contracts.bits.Sequence.children
+use Rattle.louds.proofs.bits.Sequence.children.Reads as children-reads
+use Rattle.louds.specs.contracts.bits.Sequence.parent
+use Rattle.louds.proofs.bits.Sequence.parent.Reads as parent-reads
 use Rattle.louds.specs.contracts.bits.put_one
 use Rattle.louds.proofs.bits.put_one.Reads as put-one-reads
 use Rattle.louds.specs.contracts.rank.ones_by_byte

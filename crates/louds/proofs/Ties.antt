@@ -22,18 +22,18 @@ use Rattle.louds.proofs.rank.ones_in.Kinds as ones-in-kinds
 use Rattle.louds.proofs.rank.ones_in.Reads as ones-in-reads
 use Rattle.louds.proofs.select.lowest_one.Kinds as lowest-one-kinds
 use Rattle.louds.proofs.select.lowest_one.Reads as lowest-one-reads
-use Rattle.louds.proofs.select.zero_at.Kinds as zero-at-kinds
-use Rattle.louds.proofs.select.zero_at.Reads as zero-at-reads
-use Rattle.louds.proofs.select.zero_from.Kinds as zero-from-kinds
-use Rattle.louds.proofs.select.zero_from.Reads as zero-from-reads
-use Rattle.louds.proofs.select.one_at.Kinds as one-at-kinds
-use Rattle.louds.proofs.select.one_at.Reads as one-at-reads
+use Rattle.louds.proofs.bits.Sequence.zero_at.Kinds as zero-at-kinds
+use Rattle.louds.proofs.bits.Sequence.zero_at.Reads as zero-at-reads
+use Rattle.louds.proofs.bits.Sequence.zero_from.Kinds as zero-from-kinds
+use Rattle.louds.proofs.bits.Sequence.zero_from.Reads as zero-from-reads
+use Rattle.louds.proofs.bits.Sequence.one_at.Kinds as one-at-kinds
+use Rattle.louds.proofs.bits.Sequence.one_at.Reads as one-at-reads
 use Rattle.louds.proofs.select.one_back.Kinds as one-back-kinds
 use Rattle.louds.proofs.select.one_back.Reads as one-back-reads
-use Rattle.louds.proofs.nodes.children.Kinds as children-kinds
-use Rattle.louds.proofs.nodes.children.Reads as children-reads
-use Rattle.louds.proofs.nodes.parent.Kinds as parent-kinds
-use Rattle.louds.proofs.nodes.parent.Reads as parent-reads
+use Rattle.louds.proofs.bits.Sequence.children.Kinds as children-kinds
+use Rattle.louds.proofs.bits.Sequence.children.Reads as children-reads
+use Rattle.louds.proofs.bits.Sequence.parent.Kinds as parent-kinds
+use Rattle.louds.proofs.bits.Sequence.parent.Reads as parent-reads
 use Rattle.louds.proofs.rank.ones_by_byte.Kinds as ones-by-byte-kinds
 use Rattle.louds.proofs.rank.ones_by_byte.Reads as ones-by-byte-reads
 use Rattle.louds.proofs.select.ones_from.Kinds as ones-from-kinds
@@ -51,22 +51,22 @@ ones-before-says κs a r s p = p
 pub zeros-before-says : Tells 1 zeros-before-kinds.ps zeros-before-kinds.r zeros-before-reads.Post (λ κs a r s. r ≡ zeros_before (bit a.0.now) a.1.0)
 zeros-before-says κs a r s p = p
 
-pub zero-at-says : Tells 1 zero-at-kinds.ps zero-at-kinds.r zero-at-reads.Post (λ κs a r s. r ≡ zero_at (bit a.0.now) a.1.0 a.1.1.0)
+pub zero-at-says : Tells 1 zero-at-kinds.ps zero-at-kinds.r zero-at-reads.Post (λ κs a r s. r ≡ zero_at (bit a.0.words.now) a.0.len a.1.0)
 zero-at-says κs a r s p = p
 
-pub zero-from-says : Tells 1 zero-from-kinds.ps zero-from-kinds.r zero-from-reads.Post (λ κs a r s. r ≡ zero_from (bit a.0.now) a.1.0 a.1.1.0 a.1.1.1.0)
+pub zero-from-says : Tells 1 zero-from-kinds.ps zero-from-kinds.r zero-from-reads.Post (λ κs a r s. r ≡ zero_from (bit a.0.words.now) a.0.len a.1.0 a.1.1.0)
 zero-from-says κs a r s p = p
 
-pub one-at-says : Tells 1 one-at-kinds.ps one-at-kinds.r one-at-reads.Post (λ κs a r s. r ≡ one_at (bit a.0.now) a.1.0 a.1.1.0)
+pub one-at-says : Tells 1 one-at-kinds.ps one-at-kinds.r one-at-reads.Post (λ κs a r s. r ≡ one_at (bit a.0.words.now) a.0.len a.1.0)
 one-at-says κs a r s p = p
 
 pub one-back-says : Tells 1 one-back-kinds.ps one-back-kinds.r one-back-reads.Post (λ κs a r s. r ≡ one_back (bit a.0.now) a.1.0 a.1.1.0)
 one-back-says κs a r s p = p
 
-pub children-says : Tells 1 children-kinds.ps children-kinds.r children-reads.Post (λ κs a r s. r ≡ children_of (bit a.0.now) a.1.0 a.1.1.0)
+pub children-says : Tells 1 children-kinds.ps children-kinds.r children-reads.Post (λ κs a r s. r ≡ children_of (bit a.0.words.now) a.0.len a.1.0)
 children-says κs a r s p = p
 
-pub parent-says : Tells 1 parent-kinds.ps parent-kinds.r parent-reads.Post (λ κs a r s. r ≡ parent_of (bit a.0.now) a.1.0 a.1.1.0)
+pub parent-says : Tells 1 parent-kinds.ps parent-kinds.r parent-reads.Post (λ κs a r s. r ≡ parent_of (bit a.0.words.now) a.0.len a.1.0)
 parent-says κs a r s p = p
 
 pub ones-in-says : Tells 0 ones-in-kinds.ps ones-in-kinds.r ones-in-reads.Post (λ κs a r s. r ≡ ones a.0)

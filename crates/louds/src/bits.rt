@@ -5,6 +5,13 @@ ghost use Rattle.louds.specs.Put.{with_one};
 
 pub const WORD_BITS: usize = 64;
 
+// The first `len` bits of some words. Any length goes with any words.
+#[derive(Clone, Copy)]
+pub struct Sequence<'a> {
+    pub words: &'a [u64],
+    pub len: usize,
+}
+
 // Word w, and 0 beyond the last.
 pub fn word_at(words: &[u64], w: usize) -> u64
     ensures { result ≡ slice_index words.now w }

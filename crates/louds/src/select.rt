@@ -9,7 +9,7 @@ ghost use Rattle.louds.specs.Digits.{digit};
 ghost use Rattle.louds.specs.Taking.{ones_from};
 ghost use Rattle.louds.specs.Select.{kth, marks, bit_from, zero_at, zero_from, one_at, one_back};
 
-use crate::bits::{WORD_BITS, word_at};
+use crate::bits::{Sequence, WORD_BITS, word_at};
 use crate::rank::{ones_by_byte, ones_in};
 use std::num::wrapping_add_u64;
 
@@ -115,82 +115,84 @@ fn among_zeros(len: usize, v: u64, from: usize, k: usize) -> Option<usize>
     Some(from + (k - 1))
 }
 
-// The k-th zero at `from` or beyond, if the word of `from` has it.
-fn near_zero(words: &[u64], len: usize, from: usize, k: usize) -> Option<usize>
-    ensures { result ≡ zero_from (bit words.now) (min len ((from / word_bits + 1) * word_bits)) from k }
-{
-    let w = from / WORD_BITS;
-    let before = from % WORD_BITS;
-    let near = picked(marks_in(words, 0, w) >> before << before, k)?;
-    let p = w * WORD_BITS + near;
-    if p < len { Some(p) } else { None }
-}
+impl<'a> Sequence<'a> {
+    // The k-th zero at `from` or beyond, if the word of `from` has it.
+    fn near_zero(self, from: usize, k: usize) -> Option<usize>
+        ensures { result ≡ zero_from (bit self.entry.words.now) (min self.entry.len ((from / word_bits + 1) * word_bits)) from k }
+    {
+        let w = from / WORD_BITS;
+        let before = from % WORD_BITS;
+        let near = picked(marks_in(self.words, 0, w) >> before << before, k)?;
+        let p = w * WORD_BITS + near;
+        if p < self.len { Some(p) } else { None }
+    }
 
-// The k-th bit that equals v, at `from` or beyond: whole words are passed by their count, and the one that has it is
-// looked into.
-fn bit_from(words: &[u64], len: usize, v: u64, from: usize, k: usize) -> Option<usize>
-    ensures { result ≡ bit_from (bit words.now) len v from k }
-{
-    if k == 0 || len <= from {
-        return None;
-    }
-    let mut w = from / WORD_BITS;
-    if words.len() <= w {
-        return among_zeros(len, v, from, k);
-    }
-    let before = from % WORD_BITS;
-    let mut x = marks_in(words, v, w) >> before << before;
-    let mut count = ones_in(x);
-    let mut left = k;
-    // as a `for` over the words a call took two to four instructions in a hundred more where the bit is not far
-    while count < left {
-        if len / WORD_BITS <= w {
+    // The k-th bit that equals v, at `from` or beyond: whole words are passed by their count, and the one that has it is
+    // looked into.
+    fn bit_from(self, v: u64, from: usize, k: usize) -> Option<usize>
+        ensures { result ≡ bit_from (bit self.entry.words.now) self.entry.len v from k }
+    {
+        if k == 0 || self.len <= from {
             return None;
         }
-        left -= count;
-        w += 1;
-        if words.len() <= w {
-            return among_zeros(len, v, w * WORD_BITS, left);
+        let mut w = from / WORD_BITS;
+        if self.words.len() <= w {
+            return among_zeros(self.len, v, from, k);
         }
-        x = marks_in(words, v, w);
-        count = ones_in(x);
-    }
-    let start = w * WORD_BITS;
-    let p = nth_one(x, left);
-    if p < len - start {
-        Some(start + p)
-    } else {
-        None
-    }
-}
-
-// The k-th zero.
-pub fn zero_at(words: &[u64], len: usize, k: usize) -> Option<usize>
-    ensures { result ≡ zero_at (bit words.now) len k }
-{
-    zero_from(words, len, 0, k)
-}
-
-// The k-th zero at `from` or beyond; bits before `from` do not count. Just past the j-th zero it is the zero j + k of
-// the sequence.
-// The next zeros of a walk are near: where few are asked for, the first word is looked into before its bits are
-// counted.
-pub fn zero_from(words: &[u64], len: usize, from: usize, k: usize) -> Option<usize>
-    ensures { result ≡ zero_from (bit words.now) len from k }
-{
-    if k <= FEW {
-        if let Some(p) = near_zero(words, len, from, k) {
-            return Some(p);
+        let before = from % WORD_BITS;
+        let mut x = marks_in(self.words, v, w) >> before << before;
+        let mut count = ones_in(x);
+        let mut left = k;
+        // as a `for` over the words a call took two to four instructions in a hundred more where the bit is not far
+        while count < left {
+            if self.len / WORD_BITS <= w {
+                return None;
+            }
+            left -= count;
+            w += 1;
+            if self.words.len() <= w {
+                return among_zeros(self.len, v, w * WORD_BITS, left);
+            }
+            x = marks_in(self.words, v, w);
+            count = ones_in(x);
+        }
+        let start = w * WORD_BITS;
+        let p = nth_one(x, left);
+        if p < self.len - start {
+            Some(start + p)
+        } else {
+            None
         }
     }
-    bit_from(words, len, 0, from, k)
-}
 
-// The m-th one.
-pub fn one_at(words: &[u64], len: usize, m: usize) -> Option<usize>
-    ensures { result ≡ one_at (bit words.now) len m }
-{
-    bit_from(words, len, 1, 0, m)
+    // The k-th zero.
+    pub fn zero_at(self, k: usize) -> Option<usize>
+        ensures { result ≡ zero_at (bit self.entry.words.now) self.entry.len k }
+    {
+        self.zero_from(0, k)
+    }
+
+    // The k-th zero at `from` or beyond; bits before `from` do not count. Just past the j-th zero it is the zero j + k of
+    // the sequence.
+    // The next zeros of a walk are near: where few are asked for, the first word is looked into before its bits are
+    // counted.
+    pub fn zero_from(self, from: usize, k: usize) -> Option<usize>
+        ensures { result ≡ zero_from (bit self.entry.words.now) self.entry.len from k }
+    {
+        if k <= FEW {
+            if let Some(p) = self.near_zero(from, k) {
+                return Some(p);
+            }
+        }
+        self.bit_from(0, from, k)
+    }
+
+    // The m-th one.
+    pub fn one_at(self, m: usize) -> Option<usize>
+        ensures { result ≡ one_at (bit self.entry.words.now) self.entry.len m }
+    {
+        self.bit_from(1, 0, m)
+    }
 }
 
 // The k-th one before `from`, counted down. From the m-th one it is the one m - k of the sequence.

@@ -71,16 +71,30 @@ class Edit:
         return made, texts
 
 
+def module_of(file):
+    """The module of a file of src/, as the parts of its name."""
+    return [part for part in Path(file).with_suffix('').parts if part not in ('lib', 'main', 'mod')]
+
+
+@cache
+def modules_of_types(crate):
+    """The module that declares each type: it names the type's methods, in whichever file their impl stands."""
+    src = ROOT / 'crates' / crate / 'src'
+    declared = r'^(?:pub(?:\(\w+\))? )?(?:struct|enum) (\w+)'
+    return {name: module_of(path.relative_to(src)) for path in src.rglob('*.rt') for name in re.findall(declared, path.read_text('utf-8'), re.M)}
+
+
 @cache
 def names(crate):
     """What can be refused in a crate: its functions, as crate::module::name, and the laws of its proofs, as File.name."""
     found, top = set(), ROOT / 'crates' / crate
     for path in (top / 'src').rglob('*.rt'):
-        module = [part for part in path.relative_to(top / 'src').with_suffix('').parts if part not in ('lib', 'main', 'mod')]
-        owner = []
+        file = module_of(path.relative_to(top / 'src'))
+        module, owner = file, []
         for line in path.read_text('utf-8').split('\n'):
             if line.startswith(('impl', '}')):
                 owner = re.findall(r'^impl(?:<.*?>)? (?:.* for )?(\w+)', line)
+                module = modules_of_types(crate).get(owner[0], file) if owner else file
             found |= {'::'.join([crate, *module, *owner, name]) for name in re.findall(r'^\s*(?:pub(?:\(\w+\))? )?fn (\w+)', line)}
     for path in (top / 'proofs').rglob('*.antt'):
         file = '.'.join(path.relative_to(top / 'proofs').with_suffix('').parts)

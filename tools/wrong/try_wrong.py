@@ -32,7 +32,7 @@ from functools import cache
 from pathlib import Path
 from threading import Lock
 
-from edits import PARTS, ROOT, Unfit, edits, is_named
+from edits import PARTS, ROOT, Unfit, edits, is_named, module_of, modules_of_types
 
 # What rests on a refused declaration is refused in these words, whatever is wrong with that one.
 PASSED_ON = re.compile(r'^\d+ declarations? that depends? on .* (was|were) not checked')
@@ -167,7 +167,9 @@ def function_at(crate, file, text, at):
     items = list(re.finditer(r'^\s*(?:pub(?:\(\w+\))? )?(fn|const|struct|enum|impl|use|mod) *(\w*)', text[:end], re.M))
     if not items or items[-1][1] != 'fn':
         return '', False
-    module = [part for part in file[4:-3].split('/') if part not in ('lib', 'main', 'mod')]
+    module, owners = module_of(file[4:]), re.findall(r'^(?:impl(?:<.*?>)? (?:.* for )?(\w+)|\})', text[:end], re.M)
+    if owners and owners[-1]:
+        module = modules_of_types(crate).get(owners[-1], module)
     in_head = not re.search(r'\{ *$', text[items[-1].end():end], re.M)
     return '::'.join([crate, *module, r'(\w+::)?' + items[-1][2]]), in_head
 

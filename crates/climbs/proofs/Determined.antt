@@ -37,7 +37,7 @@ pub depth-determined : (κs : Lfts 1) (a : ArgsD depth.signature κs) (r₁ r₂
 depth-determined κs a r₁ r₂ s₁ s₂ p q = p ∙ sym q
 
 pub spell-determined : (κs : Lfts 3) (a : ArgsD spell.signature κs) (r₁ r₂ : ResD spell.signature κs) (s₁ s₂ : AtExit (ended_of 3 spell-kinds.ps spell-kinds.r) κs)
-    → spell-reads.Post κs a r₁ s₁ → spell-reads.Post κs a r₂ s₂ → s₁.1.1.1.1.1.0.now ≡ s₂.1.1.1.1.1.0.now
+    → spell-reads.Post κs a r₁ s₁ → spell-reads.Post κs a r₂ s₂ → s₁.1.1.1.1.0.now ≡ s₂.1.1.1.1.0.now
 spell-determined κs a r₁ r₂ s₁ s₂ p q = p ∙ sym q
 
 pub is-below-determined : (κs : Lfts 1) (a : ArgsD is_below.signature κs) (r₁ r₂ : ResD is_below.signature κs) (s₁ s₂ : AtExit (ended_of 1 is-below-kinds.ps is-below-kinds.r) κs)

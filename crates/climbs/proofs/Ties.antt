@@ -20,20 +20,20 @@ use Rattle.climbs.proofs.below.is_below.Reads as is-below-reads
 use Rattle.climbs.proofs.order.next_valued.Kinds as next-valued-kinds
 use Rattle.climbs.proofs.order.next_valued.Reads as next-valued-reads
 
-pub perch-at-says : Tells 1 perch-at-kinds.ps perch-at-kinds.r perch-at-reads.Post (λ κs a r s. r ≡ perch_at (bit a.0.now) a.1.0 a.1.1.0)
+pub perch-at-says : Tells 1 perch-at-kinds.ps perch-at-kinds.r perch-at-reads.Post (λ κs a r s. r ≡ perch_at (bit a.0.words.now) a.0.len a.1.0)
 perch-at-says κs a r s p = p
 
-pub parent-of-says : Tells 1 parent-of-kinds.ps parent-of-kinds.r parent-of-reads.Post (λ κs a r s. r ≡ parent_from (bit a.0.now) a.1.0 a.1.1.0)
+pub parent-of-says : Tells 1 parent-of-kinds.ps parent-of-kinds.r parent-of-reads.Post (λ κs a r s. r ≡ parent_from (bit a.0.words.now) a.0.len a.1.0)
 parent-of-says κs a r s p = p
 
-pub depth-says : Tells 1 depth-kinds.ps depth-kinds.r depth-reads.Post (λ κs a r s. r ≡ depth_by (bit a.0.now) a.1.0 a.1.1.0)
+pub depth-says : Tells 1 depth-kinds.ps depth-kinds.r depth-reads.Post (λ κs a r s. r ≡ depth_by (bit a.0.words.now) a.0.len a.1.0)
 depth-says κs a r s p = p
 
-pub spell-says : Tells 3 spell-kinds.ps spell-kinds.r spell-reads.Post (λ κs a r s. s.1.1.1.1.1.0.now ≡ spelled_by a.0.now (bit a.1.0.now) a.1.1.0 a.1.1.1.0 a.1.1.1.1.0 a.1.1.1.1.1.0.now)
+pub spell-says : Tells 3 spell-kinds.ps spell-kinds.r spell-reads.Post (λ κs a r s. s.1.1.1.1.0.now ≡ spelled_by a.0.now (bit a.1.0.words.now) a.1.0.len a.1.1.0 a.1.1.1.0 a.1.1.1.1.0.now)
 spell-says κs a r s p = p
 
-pub is-below-says : Tells 1 is-below-kinds.ps is-below-kinds.r is-below-reads.Post (λ κs a r s. r ≡ below_by (bit a.0.now) a.1.0 a.1.1.0 a.1.1.1.0)
+pub is-below-says : Tells 1 is-below-kinds.ps is-below-kinds.r is-below-reads.Post (λ κs a r s. r ≡ below_by (bit a.0.words.now) a.0.len a.1.0 a.1.1.0)
 is-below-says κs a r s p = p
 
-pub next-valued-says : Tells 3 next-valued-kinds.ps next-valued-kinds.r next-valued-reads.Post (λ κs a r s. r ≡ given_of (next_by a.0.now a.1.0.now (bit a.1.1.0.now) a.1.1.1.0 a.1.1.1.1.0 a.1.1.1.1.1.0))
+pub next-valued-says : Tells 3 next-valued-kinds.ps next-valued-kinds.r next-valued-reads.Post (λ κs a r s. r ≡ given_of (next_by a.0.now a.1.0.now (bit a.1.1.0.words.now) a.1.1.0.len a.1.1.1.0 a.1.1.1.1.0))
 next-valued-says κs a r s p = p

@@ -6,7 +6,7 @@
 --     spelled_to     the buffer with those written to its front
 --     said_spelled   the answer of a call that writes a path, in 01's numbers
 -- Assumes nothing.
-use Rattle.std.specs.Prelude.{ℕ, zero, suc, ◌+◌, ◌-◌, Bool, cond, ◌&&◌, List, [], ◌∷◌, ◌++◌, length, get_or, drop, set, leb, Option, None, Some, Result}
+use Rattle.std.specs.Prelude.{ℕ, zero, suc, ◌+◌, ◌-◌, Bool, cond, ◌&&◌, List, ◌++◌, length, get_or, drop, set, leb, Option, None, Some, Result}
 use Rattle.keymap.specs.Key.{Key}
 use Rattle.keymap.specs.Label.{label_in}
 use Rattle.keymap.specs.Answers.{said, told_count}

@@ -11,15 +11,15 @@ ghost use Rattle.climbs.specs.Order.{one_behind, next_by, given_of};
 ghost use Rattle.climbs.specs.Moves.{leads, first_from, beside_from, climb_from, advance_from};
 
 use crate::perches::{Perch, parent_of, perch_at};
-use louds::{bit_at, zero_from};
+use louds::{Sequence, bit_at};
 use walks::entries::{KeyNode, counts_to, value_at};
 
 // Whether a one stands right behind a place, inside the bits.
 #[tactic(auto, unfolding(crate::specs::Order::one_behind))]
-fn one_behind(words: &[u64], len: usize, place: usize) -> bool
-    ensures { result ≡ one_behind (bit words.now) len place }
+fn one_behind(bits: Sequence, place: usize) -> bool
+    ensures { result ≡ one_behind (bit bits.entry.words.now) bits.entry.len place }
 {
-    place < len && place + 1 < len && bit_at(words, place + 1) == 1
+    place < bits.len && place + 1 < bits.len && bit_at(bits.words, place + 1) == 1
 }
 
 // Whether a node whose one is at a place may have a child that counts: fewer zeros than its number stand before its
@@ -34,15 +34,15 @@ fn leads_down(len: usize, node: usize, one: usize) -> bool
 
 // The first child of a node. Its one stands right behind the node's zero, which lies ahead of the node's one.
 #[tactic(auto, unfolding(crate::specs::Moves::first_from, crate::specs::Moves::leads, crate::specs::Order::one_behind))]
-fn first_child(words: &[u64], len: usize, last: usize, at: Perch) -> Option<Perch>
-    ensures { result ≡ first_from (bit words.now) len last at }
+fn first_child(bits: Sequence, last: usize, at: Perch) -> Option<Perch>
+    ensures { result ≡ first_from (bit bits.entry.words.now) bits.entry.len last at }
 {
-    if !leads_down(len, at.node, at.one) {
+    if !leads_down(bits.len, at.node, at.one) {
         return None;
     }
     let before = at.one + 1 - at.node;
-    let zero = zero_from(words, len, at.one, at.node - before)?;
-    if !one_behind(words, len, zero) {
+    let zero = bits.zero_from(at.one, at.node - before)?;
+    if !one_behind(bits, zero) {
         return None;
     }
     let child = zero + 2 - at.node;
@@ -57,10 +57,10 @@ fn first_child(words: &[u64], len: usize, last: usize, at: Perch) -> Option<Perc
 
 // The next sibling of a node. Its one stands right behind the node's own.
 #[tactic(auto, unfolding(crate::specs::Moves::beside_from, crate::specs::Order::one_behind))]
-fn beside(words: &[u64], len: usize, last: usize, at: Perch) -> Option<Perch>
-    ensures { result ≡ beside_from (bit words.now) len last at }
+fn beside(bits: Sequence, last: usize, at: Perch) -> Option<Perch>
+    ensures { result ≡ beside_from (bit bits.entry.words.now) bits.entry.len last at }
 {
-    if at.node < last && one_behind(words, len, at.one) {
+    if at.node < last && one_behind(bits, at.one) {
         Some(Perch {
             node: at.node + 1,
             one: at.one + 1,
@@ -72,24 +72,28 @@ fn beside(words: &[u64], len: usize, last: usize, at: Perch) -> Option<Perch>
 
 // The next node behind a node that has no child: the next sibling of the nearest of the node and its ancestors that has
 // one. At the top the climb ends.
-fn climb(words: &[u64], len: usize, last: usize, top: usize, from: Perch) -> Option<Perch>
-    ensures { result ≡ climb_from (bit words.now) len last top from }
+fn climb(bits: Sequence, last: usize, top: usize, from: Perch) -> Option<Perch>
+    ensures { result ≡ climb_from (bit bits.entry.words.now) bits.entry.len last top from }
 {
     let mut at = from;
     while at.node != top {
-        if let Some(next) = beside(words, len, last, at) {
+        if let Some(next) = beside(bits, last, at) {
             return Some(next);
         }
-        at = parent_of(words, len, at)?;
+        at = parent_of(bits, at)?;
     }
     None
 }
 
 // The next node in byte order below a top.
-fn advance(words: &[u64], len: usize, last: usize, top: usize, at: Perch) -> Option<Perch>
-    ensures { result ≡ advance_from (bit words.now) len last top at }
+fn advance(bits: Sequence, last: usize, top: usize, at: Perch) -> Option<Perch>
+    ensures { result ≡ advance_from (bit bits.entry.words.now) bits.entry.len last top at }
 {
-    first_child(words, len, last, at).or_else(|| climb(words, len, last, top, at))
+    // as `or_else` with a closure it was not proved: a closure that takes a struct of slices loses its callee's clause
+    match first_child(bits, last, at) {
+        None => climb(bits, last, top, at),
+        child => child,
+    }
 }
 
 // The next node below a top that has a value: on an image that some map has, the least key above the node's path, of
@@ -98,18 +102,17 @@ fn advance(words: &[u64], len: usize, last: usize, top: usize, at: Perch) -> Opt
 pub fn next_valued(
     labels: &[u16],
     values: &[u32],
-    words: &[u64],
-    len: usize,
+    bits: Sequence,
     top: usize,
     node: usize,
 ) -> Option<KeyNode>
     ensures { result
-        ≡ given_of (next_by labels.now values.now (bit words.now) len top node) }
+        ≡ given_of (next_by labels.now values.now (bit bits.entry.words.now) bits.entry.len top node) }
 {
     let last = labels.len() + 1;
-    let mut at = perch_at(words, len, node);
+    let mut at = perch_at(bits, node);
     for _ in 0..last {
-        at = advance(words, len, last, top, at)?;
+        at = advance(bits, last, top, at)?;
         if let Some(value) = value_at(labels, values, at.node) {
             return Some(KeyNode {
                 node: at.node,

@@ -1,4 +1,4 @@
-// Perches and their parents, in the first `len` bits. A perch carries the place of its node's one, and a parent's one
+// Perches and their parents, in a sequence of bits. A perch carries the place of its node's one, and a parent's one
 // lies before it:
 // only `perch_at`, with which a climb begins, looks from bit 0 on. A climb goes up as long as the parent's number is
 // from 1 to the node's less 1, so it ends on any bits.
@@ -6,7 +6,7 @@ ghost use Rattle.std.specs.Prelude.{◌≡◌};
 ghost use Rattle.keymap.specs.Bits.{bit};
 ghost use Rattle.climbs.specs.Perches.{perch_at, has_parent, parent_from, depth_by};
 
-use louds::{one_back, parent};
+use louds::{Sequence, one_back};
 
 // A node with the place of its one.
 #[derive(Clone, Copy)]
@@ -17,11 +17,14 @@ pub struct Perch {
 }
 
 // The perch at any node. Its one is looked for from bit 0 on.
-pub fn perch_at(words: &[u64], len: usize, node: usize) -> Perch
-    ensures { result ≡ perch_at (bit words.now) len node }
+pub fn perch_at(bits: Sequence, node: usize) -> Perch
+    ensures { result ≡ perch_at (bit bits.entry.words.now) bits.entry.len node }
 {
-    let Some(up) = parent(words, len, node) else {
-        return Perch { node, one: len };
+    let Some(up) = bits.parent(node) else {
+        return Perch {
+            node,
+            one: bits.len,
+        };
     };
     // before it stand the ones of the nodes before, and as many zeros as its parent's number says
     Perch {
@@ -41,26 +44,26 @@ fn has_parent(len: usize, node: usize, one: usize) -> bool
 
 // The parent of a perch: its number is the count of zeros before the node's one.
 #[tactic(auto, unfolding(crate::specs::Perches::parent_from, crate::specs::Perches::has_parent))]
-pub fn parent_of(words: &[u64], len: usize, at: Perch) -> Option<Perch>
-    ensures { result ≡ parent_from (bit words.now) len at }
+pub fn parent_of(bits: Sequence, at: Perch) -> Option<Perch>
+    ensures { result ≡ parent_from (bit bits.entry.words.now) bits.entry.len at }
 {
-    if !has_parent(len, at.node, at.one) {
+    if !has_parent(bits.len, at.node, at.one) {
         return None;
     }
     let up = at.one - (at.node - 1);
     Some(Perch {
         node: up,
-        one: one_back(words, at.one, at.node - up).unwrap_or(at.one),
+        one: one_back(bits.words, at.one, at.node - up).unwrap_or(at.one),
     })
 }
 
 // How many parents a node has above it.
-pub fn depth(words: &[u64], len: usize, node: usize) -> usize
-    ensures { result ≡ depth_by (bit words.now) len node }
+pub fn depth(bits: Sequence, node: usize) -> usize
+    ensures { result ≡ depth_by (bit bits.entry.words.now) bits.entry.len node }
 {
-    let mut at = perch_at(words, len, node);
+    let mut at = perch_at(bits, node);
     let mut count: usize = 0;
-    while let Some(up) = parent_of(words, len, at) {
+    while let Some(up) = parent_of(bits, at) {
         at = up;
         count += 1;
     }

@@ -8,6 +8,7 @@ ghost use Rattle.climbs.specs.Spelling.{has_entry, spelled_by};
 
 use crate::perches::{parent_of, perch_at};
 use image::MARK;
+use louds::Sequence;
 
 fn label_in(entry: u16) -> u8
     ensures { result ≡ label_in entry }
@@ -27,20 +28,20 @@ fn has_entry(labels: &[u16], node: usize) -> bool
 // buffer that is shorter stays whole.
 // The climb ends early at a node that has no entry or no parent.
 #[tactic(auto, unfolding(crate::specs::Spelling::has_entry))]
-pub fn spell(labels: &[u16], words: &[u64], len: usize, node: usize, count: usize, out: &mut [u8])
+pub fn spell(labels: &[u16], bits: Sequence, node: usize, count: usize, out: &mut [u8])
     ensures { out.new
-        ≡ spelled_by labels.now (bit words.now) len node count out.old }
+        ≡ spelled_by labels.now (bit bits.entry.words.now) bits.entry.len node count out.old }
 {
     if out.len() < count {
         return;
     }
-    let mut at = perch_at(words, len, node);
+    let mut at = perch_at(bits, node);
     for place in (0..count).rev() {
         if !has_entry(labels, at.node) {
             return;
         }
         out[place] = label_in(labels[at.node - 2]);
-        let Some(up) = parent_of(words, len, at) else {
+        let Some(up) = parent_of(bits, at) else {
             return;
         };
         at = up;

@@ -10,8 +10,8 @@ use Rattle.descents.proofs.queries.walk.Reads as walk-reads
 use Rattle.descents.proofs.queries.end_of.Kinds as end-of-kinds
 use Rattle.descents.proofs.queries.end_of.Reads as end-of-reads
 
-pub walk-says : Tells 3 walk-kinds.ps walk-kinds.r walk-reads.Post (λ κs a r s. r ≡ reached_at (bit a.1.0.now) a.1.1.0 (walked a.0.now (bit a.1.0.now) a.1.1.0 a.1.1.1.0.now))
+pub walk-says : Tells 3 walk-kinds.ps walk-kinds.r walk-reads.Post (λ κs a r s. r ≡ reached_at (bit a.1.0.words.now) a.1.0.len (walked a.0.now (bit a.1.0.words.now) a.1.0.len a.1.1.0.now))
 walk-says κs a r s p = p
 
-pub end-of-says : Tells 3 end-of-kinds.ps end-of-kinds.r end-of-reads.Post (λ κs a r s. r ≡ (walked a.0.now (bit a.1.0.now) a.1.1.0 a.1.1.1.0.now))
+pub end-of-says : Tells 3 end-of-kinds.ps end-of-kinds.r end-of-reads.Post (λ κs a r s. r ≡ (walked a.0.now (bit a.1.0.words.now) a.1.0.len a.1.1.0.now))
 end-of-says κs a r s p = p

@@ -1,5 +1,6 @@
 -- What the passing of whole words finds, on any words and numbers.
 --
+--     Wide           no word is wider than 64 bits
 --     zeros_up_to    the zeros before word w
 --     zero_bits      the zeros of word w, as ones of a number
 --     PassedFrom     words are passed, with as many zeros as are no longer left
@@ -23,6 +24,9 @@ use Rattle.walks.specs.declared.stands.Stand.{Stand}
 use Rattle.descents.specs.declared.queries.Ended.{Ended}
 use Rattle.descents.specs.declared.queries.Ended.TheVariants.{Near, At}
 use Rattle.walks.specs.Stands.{down_along}
+
+abbrev pub Wide : List ℕ → Type 0
+Wide ws = (i : ℕ) → get_or ws i 0 < 2 ^ word_bits
 
 abbrev pub zeros_up_to : List ℕ → ℕ → ℕ
 zeros_up_to ws w = zeros_before (bit ws) (w * word_bits)

@@ -1,13 +1,14 @@
 // Going down along a query by those words of the bits that lie inside as a whole: a walk keeps the word that has its
 // node's zero, with the zeros up to the end of each of its bytes, and goes on from there. Where a zero stands in none
 // of these words it stops, and `queries::go_on` takes the other steps from the word kept on.
-ghost use Rattle.std.specs.Prelude.{◌≡◌};
+ghost use Rattle.std.specs.Prelude.{◌≡◌, ◌/◌, min, length};
+ghost use Rattle.keymap.specs.Limits.{word_bits};
 ghost use Rattle.keymap.specs.Bits.{bit};
 ghost use Rattle.walks.specs.Rule.{walked};
 ghost use Rattle.walks.specs.Stands.{reached_at};
-ghost use Rattle.descents.specs.Far.{PassedFrom, Ready, ZeroWord, stand_near, went_on};
+ghost use Rattle.descents.specs.Far.{PassedFrom, Ready, Wide, ZeroWord, stand_near, went_on};
 
-use louds::{WORD_BITS, lowest_one, ones_by_byte, ones_from, ones_in, zero_from};
+use louds::{Sequence, WORD_BITS, lowest_one, ones_by_byte, ones_from, ones_in};
 use walks::siblings::child_within;
 use walks::stands::Stand;
 
@@ -111,13 +112,22 @@ fn word_with_zero(words: &[u64], whole: usize, first: usize) -> Option<usize>
     None
 }
 
-// Down from node 1 along a query, as far as the zeros stand in whole words.
-pub fn go_far(labels: &[u16], words: &[u64], len: usize, query: &[u8]) -> Option<Headway>
-    ensures { went_on labels.now (bit words.now) len query.now result
-        ≡ reached_at (bit words.now) len
-        (walked labels.now (bit words.now) len query.now) }
+// How many words lie inside the bits as a whole. That no word is wider than 64 bits a slice tells, and a slice inside a
+// `Sequence` does not.
+fn whole_words(words: &[u64], len: usize) -> usize
+    ensures count { result ≡ min (length words.now) (len / word_bits) }
+    ensures wide { Wide words.now }
 {
-    let whole = words.len().min(len / WORD_BITS);
+    words.len().min(len / WORD_BITS)
+}
+
+// Down from node 1 along a query, as far as the zeros stand in whole words.
+pub fn go_far(labels: &[u16], bits: Sequence, query: &[u8]) -> Option<Headway>
+    ensures { went_on labels.now (bit bits.entry.words.now) bits.entry.len query.now result
+        ≡ reached_at (bit bits.entry.words.now) bits.entry.len
+        (walked labels.now (bit bits.entry.words.now) bits.entry.len query.now) }
+{
+    let whole = whole_words(bits.words, bits.len);
     let mut node: usize = 1;
     // no word yet: one zero is to be passed, from bit 0 on
     let mut kept = Kept {
@@ -130,20 +140,20 @@ pub fn go_far(labels: &[u16], words: &[u64], len: usize, query: &[u8]) -> Option
     let mut steps = query.len();
     for i in 0..query.len() {
         if kept.zeros < kept.left {
-            let Some(next) = pass_on(words, whole, kept.words, kept.left - kept.zeros) else {
+            let Some(next) = pass_on(bits.words, whole, kept.words, kept.left - kept.zeros) else {
                 steps = i;
                 break;
             };
             kept = next;
         }
-        let rest = ones_from(!words[kept.words - 1], kept.sums, kept.left);
+        let rest = ones_from(!bits.words[kept.words - 1], kept.sums, kept.left);
         let base = kept.words * WORD_BITS - node;
         let from = base + lowest_one(rest) - 63;
         let more = rest & (rest - 1);
         let to = if more != 0 {
             base + lowest_one(more) - 64
-        } else if let Some(v) = word_with_zero(words, whole, kept.words) {
-            v * WORD_BITS + lowest_one(!words[v]) - node
+        } else if let Some(v) = word_with_zero(bits.words, whole, kept.words) {
+            v * WORD_BITS + lowest_one(!bits.words[v]) - node
         } else {
             steps = i;
             break;
@@ -161,16 +171,19 @@ pub fn go_far(labels: &[u16], words: &[u64], len: usize, query: &[u8]) -> Option
 }
 
 // The stand at a node whose zero is the `left`-th from the start of word kept-1 on, or of word 0 where `kept` is 0.
-pub fn stand_near(words: &[u64], len: usize, node: usize, kept: usize, left: usize) -> Stand
-    ensures { result ≡ stand_near (bit words.now) len node kept left }
+pub fn stand_near(bits: Sequence, node: usize, kept: usize, left: usize) -> Stand
+    ensures { result ≡ stand_near (bit bits.entry.words.now) bits.entry.len node kept left }
 {
     let last = kept.saturating_sub(1);
     // a word that begins behind the end has none of the bits
-    if len / WORD_BITS < last {
-        return Stand { node, zero: len };
+    if bits.len / WORD_BITS < last {
+        return Stand {
+            node,
+            zero: bits.len,
+        };
     }
     Stand {
         node,
-        zero: zero_from(words, len, last * WORD_BITS, left).unwrap_or(len),
+        zero: bits.zero_from(last * WORD_BITS, left).unwrap_or(bits.len),
     }
 }

@@ -6,6 +6,7 @@ ghost use Rattle.walks.specs.Stands.{down_along, reached_at};
 ghost use Rattle.descents.specs.Far.{stand_near, ended_at};
 
 use crate::far::{Headway, go_far, stand_near};
+use louds::Sequence;
 use walks::moves::down;
 use walks::stands::Stand;
 
@@ -24,8 +25,7 @@ enum Ended {
 // Down along a query from its step `steps` on, from the node that whole words left.
 fn go_on(
     labels: &[u16],
-    words: &[u64],
-    len: usize,
+    bits: Sequence,
     query: &[u8],
     node: usize,
     kept: usize,
@@ -33,60 +33,59 @@ fn go_on(
     steps: usize,
 ) -> Option<Stand>
     ensures { result
-        ≡ down_along labels.now (bit words.now) len (drop steps query.now)
-        (Some (stand_near (bit words.now) len node kept left)) }
+        ≡ down_along labels.now (bit bits.entry.words.now) bits.entry.len (drop steps query.now)
+        (Some (stand_near (bit bits.entry.words.now) bits.entry.len node kept left)) }
 {
-    let mut s = stand_near(words, len, node, kept, left);
+    let mut s = stand_near(bits, node, kept, left);
     // no step where `steps` is the query's length or more
     for j in steps..query.len() {
-        s = down(labels, words, len, s, query[j])?;
+        s = down(labels, bits, s, query[j])?;
     }
     Some(s)
 }
 
 // From node 1 along a query: whole words first. Where these reach the query's end, the node's zero is not looked for.
-fn reach_end(labels: &[u16], words: &[u64], len: usize, query: &[u8]) -> Option<Ended>
-    ensures { ended_at (bit words.now) len result
-        ≡ reached_at (bit words.now) len
-        (walked labels.now (bit words.now) len query.now) }
+fn reach_end(labels: &[u16], bits: Sequence, query: &[u8]) -> Option<Ended>
+    ensures { ended_at (bit bits.entry.words.now) bits.entry.len result
+        ≡ reached_at (bit bits.entry.words.now) bits.entry.len
+        (walked labels.now (bit bits.entry.words.now) bits.entry.len query.now) }
 {
     let Headway {
         node,
         steps,
         kept,
         left,
-    } = go_far(labels, words, len, query)?;
+    } = go_far(labels, bits, query)?;
     if query.len() <= steps {
         return Some(Ended::Near { node, kept, left });
     }
-    let s = go_on(labels, words, len, query, node, kept, left, steps)?;
+    let s = go_on(labels, bits, query, node, kept, left, steps)?;
     Some(Ended::At(s))
 }
 
 // The node at the end of a query, walked from node 1.
-pub fn end_of(labels: &[u16], words: &[u64], len: usize, query: &[u8]) -> Option<usize>
+pub fn end_of(labels: &[u16], bits: Sequence, query: &[u8]) -> Option<usize>
     ensures { result
-        ≡ walked labels.now (bit words.now) len query.now }
+        ≡ walked labels.now (bit bits.entry.words.now) bits.entry.len query.now }
 {
-    match reach_end(labels, words, len, query)? {
+    match reach_end(labels, bits, query)? {
         Ended::Near { node, .. } => Some(node),
         Ended::At(s) => Some(s.node),
     }
 }
 
 // The stand at the end of a query, walked from node 1.
-pub fn walk(labels: &[u16], words: &[u64], len: usize, query: &[u8]) -> Option<Stand>
+pub fn walk(labels: &[u16], bits: Sequence, query: &[u8]) -> Option<Stand>
     ensures { result
-        ≡ reached_at (bit words.now) len
-        (walked labels.now (bit words.now) len query.now) }
+        ≡ reached_at (bit bits.entry.words.now) bits.entry.len
+        (walked labels.now (bit bits.entry.words.now) bits.entry.len query.now) }
 {
-    match reach_end(labels, words, len, query)? {
+    match reach_end(labels, bits, query)? {
         // with no step left `go_on` looks for the zero alone; called from here too it is not compiled into `reach_end`,
         // which is the shorter for it
         Ended::Near { node, kept, left } => go_on(
             labels,
-            words,
-            len,
+            bits,
             query,
             node,
             kept,

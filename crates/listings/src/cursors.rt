@@ -1,8 +1,8 @@
 // Listings, after `src/iter/search_iter.rs` and `src/iter/postfix_iter.rs`. A cursor holds numbers alone, so each call
 // tests the image, and then that the numbers belong to it. The image is tested before anything else: a refused image
 // answers NotAnImage for a finished cursor and for the empty query too.
-// The functions that the calls are made of answer for any slices and numbers (specs/Numbers), and read the first `len`
-// bits.
+// The functions that the calls are made of answer for any slices and numbers (specs/Numbers), and read no bit behind
+// the sequence.
 ghost use Rattle.std.specs.Prelude.{◌≡◌};
 ghost use Rattle.keymap.specs.Bits.{bit};
 ghost use Rattle.image.specs.Meaning.{lent_image};
@@ -18,6 +18,7 @@ use climbs::order::next_valued;
 use descents::walk;
 use image::accept;
 use keymap::Refusal;
+use louds::Sequence;
 use walks::entries::{KeyNode, is_node, value_at};
 use walks::stands::{Stand, kids};
 
@@ -26,16 +27,15 @@ use walks::stands::{Stand, kids};
 fn in_set(
     labels: &[u16],
     values: &[u32],
-    words: &[u64],
-    len: usize,
+    bits: Sequence,
     kind: Kind,
     top: usize,
     node: usize,
 ) -> bool
-    ensures { result ≡ in_set_by labels.now values.now (bit words.now) len kind top node }
+    ensures { result ≡ in_set_by labels.now values.now (bit bits.entry.words.now) bits.entry.len kind top node }
 {
     let left_out = kind == Kind::Postfix && node == top;
-    !left_out && value_at(labels, values, node).is_some() && is_below(words, len, top, node)
+    !left_out && value_at(labels, values, node).is_some() && is_below(bits, top, node)
 }
 
 // Whether the numbers of an open cursor belong to the image.
@@ -43,13 +43,12 @@ fn in_set(
 pub fn stands(
     labels: &[u16],
     values: &[u32],
-    words: &[u64],
-    len: usize,
+    bits: Sequence,
     kind: Kind,
     top: u32,
     last: u32,
 ) -> bool
-    ensures { result ≡ stands_by labels.now values.now (bit words.now) len kind top last }
+    ensures { result ≡ stands_by labels.now values.now (bit bits.entry.words.now) bits.entry.len kind top last }
 {
     if !is_node(labels, top) {
         return false;
@@ -57,32 +56,17 @@ pub fn stands(
     if last == 0 {
         return true;
     }
-    is_node(labels, last)
-        && in_set(
-            labels,
-            values,
-            words,
-            len,
-            kind,
-            top as usize,
-            last as usize,
-        )
+    is_node(labels, last) && in_set(labels, values, bits, kind, top as usize, last as usize)
 }
 
 // The first key that begins with the top's path: its own, if it has a value.
 #[tactic(auto, unfolding(crate::specs::Numbers::first_given_by))]
-fn first_given(
-    labels: &[u16],
-    values: &[u32],
-    words: &[u64],
-    len: usize,
-    top: usize,
-) -> Option<KeyNode>
-    ensures { result ≡ given_of (first_given_by labels.now values.now (bit words.now) len top) }
+fn first_given(labels: &[u16], values: &[u32], bits: Sequence, top: usize) -> Option<KeyNode>
+    ensures { result ≡ given_of (first_given_by labels.now values.now (bit bits.entry.words.now) bits.entry.len top) }
 {
     match value_at(labels, values, top) {
         Some(value) => Some(KeyNode { node: top, value }),
-        None => next_valued(labels, values, words, len, top, top),
+        None => next_valued(labels, values, bits, top, top),
     }
 }
 
@@ -91,32 +75,31 @@ fn first_given(
 fn next_given(
     labels: &[u16],
     values: &[u32],
-    words: &[u64],
-    len: usize,
+    bits: Sequence,
     kind: Kind,
     top: usize,
     last: usize,
 ) -> Option<KeyNode>
     ensures { result
-        ≡ given_of (next_given_by labels.now values.now (bit words.now) len kind top last) }
+        ≡ given_of (next_given_by labels.now values.now (bit bits.entry.words.now) bits.entry.len kind top last) }
 {
     if last != 0 {
-        return next_valued(labels, values, words, len, top, last);
+        return next_valued(labels, values, bits, top, last);
     }
     match kind {
-        Kind::Predictive => first_given(labels, values, words, len, top),
-        Kind::Postfix => next_valued(labels, values, words, len, top, top),
+        Kind::Predictive => first_given(labels, values, bits, top),
+        Kind::Postfix => next_valued(labels, values, bits, top, top),
     }
 }
 
 // Whether a set has a key. Where there are nodes besides the root, some key begins with each path.
-fn has_keys(labels: &[u16], words: &[u64], len: usize, kind: Kind, s: Stand) -> bool
-    ensures { result ≡ has_keys_by labels.now (bit words.now) len kind s }
+fn has_keys(labels: &[u16], bits: Sequence, kind: Kind, s: Stand) -> bool
+    ensures { result ≡ has_keys_by labels.now (bit bits.entry.words.now) bits.entry.len kind s }
 {
     match kind {
         Kind::Predictive => 0 < labels.len(),
         Kind::Postfix => {
-            let k = kids(words, len, s);
+            let k = kids(bits, s);
             0 < k.count
         }
     }
@@ -124,14 +107,14 @@ fn has_keys(labels: &[u16], words: &[u64], len: usize, kind: Kind, s: Stand) -> 
 
 // The cursor that a listing starts with, on any bits. Its numbers have 32 bits.
 #[tactic(auto, unfolding(crate::specs::Numbers::start_by))]
-fn start(labels: &[u16], words: &[u64], len: usize, kind: Kind, query: &[u8]) -> Cursor
-    ensures { result ≡ start_by labels.now (bit words.now) len kind query.now }
+fn start(labels: &[u16], bits: Sequence, kind: Kind, query: &[u8]) -> Cursor
+    ensures { result ≡ start_by labels.now (bit bits.entry.words.now) bits.entry.len kind query.now }
 {
-    let Some(s) = walk(labels, words, len, query) else {
+    let Some(s) = walk(labels, bits, query) else {
         return Cursor::finished(kind);
     };
     match u32::try_from(s.node) {
-        Ok(top) if has_keys(labels, words, len, kind, s) => Cursor::top(kind, top),
+        Ok(top) if has_keys(labels, bits, kind, s) => Cursor::top(kind, top),
         _ => Cursor::finished(kind),
     }
 }
@@ -148,7 +131,8 @@ fn listing(
 {
     accept(labels, values, words)?; // for the empty query too
     let len = 2 * labels.len() + 3;
-    Ok(start(labels, words, len, kind, query))
+    let bits = Sequence { words, len };
+    Ok(start(labels, bits, kind, query))
 }
 
 // A cursor over the keys that begin with a query, finished where there are none. Each kind has a call of the name that
@@ -191,18 +175,11 @@ pub fn step(
         return Ok(Stepped::End { next: cursor });
     };
     let len = 2 * labels.len() + 3;
-    if !stands(labels, values, words, len, kind, top, last) {
+    let bits = Sequence { words, len };
+    if !stands(labels, values, bits, kind, top, last) {
         return Err(Refusal::BadPlace);
     }
-    match next_given(
-        labels,
-        values,
-        words,
-        len,
-        kind,
-        top as usize,
-        last as usize,
-    ) {
+    match next_given(labels, values, bits, kind, top as usize, last as usize) {
         Some(key) => {
             let node = key.node as u32;
             Ok(Stepped::Gave {

@@ -13,15 +13,16 @@ use climbs::perches::depth;
 use climbs::spelling::spell;
 use image::accept;
 use keymap::Refusal;
+use louds::Sequence;
 
 // How long the key of a node is in a listing, on any bits: in a postfix listing the top's path does not count.
-fn given_len(words: &[u64], len: usize, kind: Kind, top: usize, node: usize) -> usize
-    ensures { result ≡ given_len_by (bit words.now) len kind top node }
+fn given_len(bits: Sequence, kind: Kind, top: usize, node: usize) -> usize
+    ensures { result ≡ given_len_by (bit bits.entry.words.now) bits.entry.len kind top node }
 {
-    let whole = depth(words, len, node);
+    let whole = depth(bits, node);
     match kind {
         Kind::Predictive => whole,
-        Kind::Postfix => whole.saturating_sub(depth(words, len, top)),
+        Kind::Postfix => whole.saturating_sub(depth(bits, top)),
     }
 }
 
@@ -42,13 +43,14 @@ pub fn cursor_key(
         return Err(Refusal::BadPlace);
     };
     let len = 2 * labels.len() + 3;
-    if last == 0 || !stands(labels, values, words, len, kind, top, last) {
+    let bits = Sequence { words, len };
+    if last == 0 || !stands(labels, values, bits, kind, top, last) {
         return Err(Refusal::BadPlace);
     }
-    let length = given_len(words, len, kind, top as usize, last as usize);
+    let length = given_len(bits, kind, top as usize, last as usize);
     if out.len() < length {
         return Err(Refusal::KeyRoom);
     }
-    spell(labels, words, len, last as usize, length, out);
+    spell(labels, bits, last as usize, length, out);
     Ok(length)
 }

@@ -7,8 +7,8 @@ use crate::answers::Children;
 use crate::bits::Sequence;
 
 impl<'a> Sequence<'a> {
-    // The children of node k: the ones after the k-th zero up to the next zero or the end. Without that zero there is no
-    // such node.
+    // The children of node k: the ones after the k-th zero up to the next zero or the end. Without that zero there is
+    // no such node.
     pub fn children(self, k: usize) -> Option<Children>
         ensures { result ≡ children_of (bit self.entry.words.now) self.entry.len k }
     {

@@ -1,5 +1,5 @@
-// Selects: where the k-th zero or one stands, counted from 1, among the first `len` bits, or going down, among those
-// before a place. The 0-th is missing.
+// Selects: where the k-th zero or one of a sequence stands, counted from 1, or going down, the k-th of the bits before
+// a place. The 0-th is missing.
 // Words are passed by how many zeros or ones they have, and the one that has the k-th is looked into.
 ghost use Rattle.std.specs.Prelude.{◌≡◌, ◌+◌, ◌*◌, ◌/◌, ◌<◌, ◌≤◌, min, count_ones, Some, unwrap_or};
 ghost use Rattle.std.specs.Int.Count.{count_trailing_zeros};
@@ -118,7 +118,8 @@ fn among_zeros(len: usize, v: u64, from: usize, k: usize) -> Option<usize>
 impl<'a> Sequence<'a> {
     // The k-th zero at `from` or beyond, if the word of `from` has it.
     fn near_zero(self, from: usize, k: usize) -> Option<usize>
-        ensures { result ≡ zero_from (bit self.entry.words.now) (min self.entry.len ((from / word_bits + 1) * word_bits)) from k }
+        ensures { result
+            ≡ zero_from (bit self.entry.words.now) (min self.entry.len ((from / word_bits + 1) * word_bits)) from k }
     {
         let w = from / WORD_BITS;
         let before = from % WORD_BITS;
@@ -127,8 +128,8 @@ impl<'a> Sequence<'a> {
         if p < self.len { Some(p) } else { None }
     }
 
-    // The k-th bit that equals v, at `from` or beyond: whole words are passed by their count, and the one that has it is
-    // looked into.
+    // The k-th bit that equals v, at `from` or beyond: whole words are passed by their count, and the one that has it
+    // is looked into.
     fn bit_from(self, v: u64, from: usize, k: usize) -> Option<usize>
         ensures { result ≡ bit_from (bit self.entry.words.now) self.entry.len v from k }
     {
@@ -172,8 +173,8 @@ impl<'a> Sequence<'a> {
         self.zero_from(0, k)
     }
 
-    // The k-th zero at `from` or beyond; bits before `from` do not count. Just past the j-th zero it is the zero j + k of
-    // the sequence.
+    // The k-th zero at `from` or beyond; bits before `from` do not count. Just past the j-th zero it is the zero j + k
+    // of the sequence.
     // The next zeros of a walk are near: where few are asked for, the first word is looked into before its bits are
     // counted.
     pub fn zero_from(self, from: usize, k: usize) -> Option<usize>

@@ -5,7 +5,7 @@ ghost use Rattle.image.specs.Meaning.{lent_image};
 ghost use Rattle.places.specs.Moves.{place_number, answer_by, query_by, follow_by, goto_by};
 
 use crate::answers::{Answer, Moved};
-use louds::{Children, children};
+use louds::{Children, Sequence};
 use walks::entries::value_at;
 use walks::glide::glide;
 use walks::moves::down;
@@ -23,7 +23,8 @@ fn answer_at(labels: &[u16], values: &[u32], words: &[u64], s: Stand) -> Answer
     ensures { result ≡ answer_by (lent_image labels values words) s }
 {
     let len = 2 * labels.len() + 3;
-    let k = kids(words, len, s);
+    let bits = Sequence { words, len };
+    let k = kids(bits, s);
     if k.count == 0 {
         return Answer::Match;
     }
@@ -44,8 +45,9 @@ pub fn step_by(
     ensures { result ≡ query_by (lent_image labels values words) node label }
 {
     let len = 2 * labels.len() + 3;
-    let s = stand_at(words, len, node as usize);
-    let Some(t) = down(labels, words, len, s, label) else {
+    let bits = Sequence { words, len };
+    let s = stand_at(bits, node as usize);
+    let Some(t) = down(labels, bits, s, label) else {
         return Moved {
             answer: Ok(None),
             node,
@@ -68,9 +70,10 @@ pub fn follow(
     ensures { result ≡ follow_by (lent_image labels values words) node query.now }
 {
     let len = 2 * labels.len() + 3;
-    let mut s = stand_at(words, len, node as usize);
+    let bits = Sequence { words, len };
+    let mut s = stand_at(bits, node as usize);
     for j in 0..query.len() {
-        let Some(t) = down(labels, words, len, s, query[j]) else {
+        let Some(t) = down(labels, bits, s, query[j]) else {
             return Moved {
                 answer: Ok(Err(j)),
                 node: place_number(s.node),
@@ -100,8 +103,9 @@ pub fn go_down(
     ensures { result ≡ goto_by (lent_image labels values words) node }
 {
     let len = 2 * labels.len() + 3;
+    let bits = Sequence { words, len };
     let from = node as usize;
-    let Some(Children { first, count }) = children(words, len, from) else {
+    let Some(Children { first, count }) = bits.children(from) else {
         return Moved {
             answer: Ok(Ok(0)),
             node,
@@ -121,8 +125,8 @@ pub fn go_down(
     }
     // the zero behind an only child has as many zeros before it as the node's number says, and as many ones as the
     // child's
-    let c = kid_at(words, len, from, from + first, first);
-    let g = glide(labels, values, words, len, c);
+    let c = kid_at(bits, from, from + first, first);
+    let g = glide(labels, values, bits, c);
     let distance = g.steps + 1;
     let end = g.stand.node;
     let answer = match value_at(labels, values, end) {

@@ -10,6 +10,7 @@ use crate::checks::check_place;
 use climbs::perches::depth;
 use climbs::spelling::spell;
 use keymap::Refusal;
+use louds::Sequence;
 use walks::entries::value_at;
 
 // The place at a node's number.
@@ -44,7 +45,8 @@ pub fn prefix_len(
 {
     check_place(labels, values, words, place.node)?;
     let len = 2 * labels.len() + 3;
-    Ok(depth(words, len, place.node as usize))
+    let bits = Sequence { words, len };
+    Ok(depth(bits, place.node as usize))
 }
 
 // Writes a place's path to the front of a buffer, and answers its length; the bytes past it stay.
@@ -61,10 +63,11 @@ pub fn prefix(
     check_place(labels, values, words, place.node)?;
     let node = place.node as usize;
     let len = 2 * labels.len() + 3;
-    let length = depth(words, len, node);
+    let bits = Sequence { words, len };
+    let length = depth(bits, node);
     if out.len() < length {
         return Err(Refusal::KeyRoom);
     }
-    spell(labels, words, len, node, length, out);
+    spell(labels, bits, node, length, out);
     Ok(length)
 }

@@ -11,6 +11,7 @@ ghost use Rattle.searches.specs.CommonPrefixes.{common_part};
 use crate::answers::Common;
 use image::accept;
 use keymap::Refusal;
+use louds::Sequence;
 use walks::entries::value_at;
 use walks::moves::down;
 use walks::stands::stand_at;
@@ -43,9 +44,10 @@ fn shortest(
         ≡ match_of (shortest_from (lent_image labels values words) seen query.now 0 (Some 1)) }
 {
     let len = 2 * labels.len() + 3;
-    let mut s = stand_at(words, len, 1);
+    let bits = Sequence { words, len };
+    let mut s = stand_at(bits, 1);
     for depth in 0..query.len() {
-        s = down(labels, words, len, s, query[depth])?;
+        s = down(labels, bits, s, query[depth])?;
         let length = depth + 1;
         if let Some(value) = unseen_value(labels, values, s.node, length, seen) {
             return Some(Common { length, value });

@@ -10,6 +10,7 @@ ghost use Rattle.searches.specs.Exact.{keyed_in, goes_on, exact_says, set_values
 use descents::{end_of, walk};
 use image::accept;
 use keymap::Refusal;
+use louds::Sequence;
 use walks::entries::{KeyNode, value_at};
 use walks::stands::kids;
 
@@ -19,7 +20,8 @@ pub fn find(labels: &[u16], values: &[u32], words: &[u64], query: &[u8]) -> Opti
     ensures { result ≡ keyed_in (lent_image labels values words) query.now }
 {
     let len = 2 * labels.len() + 3;
-    let node = end_of(labels, words, len, query)?;
+    let bits = Sequence { words, len };
+    let node = end_of(labels, bits, query)?;
     let value = value_at(labels, values, node)?;
     Some(KeyNode { node, value })
 }
@@ -71,10 +73,11 @@ fn goes_on(labels: &[u16], words: &[u64], query: &[u8]) -> bool
     ensures { result ≡ goes_on labels.now words.now query.now }
 {
     let len = 2 * labels.len() + 3;
-    let Some(s) = walk(labels, words, len, query) else {
+    let bits = Sequence { words, len };
+    let Some(s) = walk(labels, bits, query) else {
         return false;
     };
-    let k = kids(words, len, s);
+    let k = kids(bits, s);
     0 < k.count
 }
 

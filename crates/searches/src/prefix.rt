@@ -8,6 +8,7 @@ use climbs::spelling::spell;
 use descents::walk;
 use image::accept;
 use keymap::Refusal;
+use louds::Sequence;
 use walks::glide::glide;
 
 // The longest common prefix of all keys that begin with a query, its own among them, written to the front of a buffer.
@@ -25,10 +26,11 @@ pub fn longest_prefix(
 {
     accept(labels, values, words)?;
     let len = 2 * labels.len() + 3;
-    let Some(s) = walk(labels, words, len, query) else {
+    let bits = Sequence { words, len };
+    let Some(s) = walk(labels, bits, query) else {
         return Ok(None);
     };
-    let g = glide(labels, values, words, len, s);
+    let g = glide(labels, values, bits, s);
     let length = query.len() + g.steps;
     if length == 0 {
         return Ok(None);
@@ -37,6 +39,6 @@ pub fn longest_prefix(
         return Err(Refusal::KeyRoom);
     }
     let end = g.stand;
-    spell(labels, words, len, end.node, length, out);
+    spell(labels, bits, end.node, length, out);
     Ok(Some(length))
 }

@@ -38,19 +38,19 @@ counts-to-says κs a r s p = p
 pub value-at-says : Tells 2 value-at-kinds.ps value-at-kinds.r value-at-reads.Post (λ κs a r s. r ≡ (value_of_node a.0.now a.1.0.now a.1.1.0))
 value-at-says κs a r s p = p
 
-pub stand-at-says : Tells 1 stand-at-kinds.ps stand-at-kinds.r stand-at-reads.Post (λ κs a r s. r ≡ stand_at (bit a.0.now) a.1.0 a.1.1.0)
+pub stand-at-says : Tells 1 stand-at-kinds.ps stand-at-kinds.r stand-at-reads.Post (λ κs a r s. r ≡ stand_at (bit a.0.words.now) a.0.len a.1.0)
 stand-at-says κs a r s p = p
 
-pub kids-says : Tells 1 kids-kinds.ps kids-kinds.r kids-reads.Post (λ κs a r s. r ≡ kids_from (bit a.0.now) a.1.0 a.1.1.0)
+pub kids-says : Tells 1 kids-kinds.ps kids-kinds.r kids-reads.Post (λ κs a r s. r ≡ kids_from (bit a.0.words.now) a.0.len a.1.0)
 kids-says κs a r s p = p
 
-pub kid-at-says : Tells 1 kid-at-kinds.ps kid-at-kinds.r kid-at-reads.Post (λ κs a r s. r ≡ kid_from (bit a.0.now) a.1.0 a.1.1.0 a.1.1.1.0 a.1.1.1.1.0)
+pub kid-at-says : Tells 1 kid-at-kinds.ps kid-at-kinds.r kid-at-reads.Post (λ κs a r s. r ≡ kid_from (bit a.0.words.now) a.0.len a.1.0 a.1.1.0 a.1.1.1.0)
 kid-at-says κs a r s p = p
 
-pub down-says : Tells 2 down-kinds.ps down-kinds.r down-reads.Post (λ κs a r s. r ≡ down_from a.0.now (bit a.1.0.now) a.1.1.0 a.1.1.1.0 a.1.1.1.1.0)
+pub down-says : Tells 2 down-kinds.ps down-kinds.r down-reads.Post (λ κs a r s. r ≡ down_from a.0.now (bit a.1.0.words.now) a.1.0.len a.1.1.0 a.1.1.1.0)
 down-says κs a r s p = p
 
-pub glide-says : Tells 3 glide-kinds.ps glide-kinds.r glide-reads.Post (λ κs a r s. r ≡ glided_from a.0.now a.1.0.now (bit a.1.1.0.now) a.1.1.1.0 a.1.1.1.1.0)
+pub glide-says : Tells 3 glide-kinds.ps glide-kinds.r glide-reads.Post (λ κs a r s. r ≡ glided_from a.0.now a.1.0.now (bit a.1.1.0.words.now) a.1.1.0.len a.1.1.1.0)
 glide-says κs a r s p = p
 
 pub entry-matches-says : Tells 0 entry-matches-kinds.ps entry-matches-kinds.r entry-matches-reads.Post (λ κs a r s. r ≡ matches a.0 a.1.0)

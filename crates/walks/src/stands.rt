@@ -1,4 +1,4 @@
-// Stands and their children, in the first `len` bits. A stand carries the place of its node's zero, so that a step down
+// Stands and their children, in a sequence of bits. A stand carries the place of its node's zero, so that a step down
 // goes on from there:
 // of these calls only `stand_at`, for a node that is given by its number, looks from bit 0 on.
 ghost use Rattle.std.specs.Prelude.{◌≡◌};
@@ -6,7 +6,7 @@ ghost use Rattle.keymap.specs.Bits.{bit};
 ghost use Rattle.walks.specs.Stands.{stand_at, is_stand, kids_from, kid_from};
 
 use crate::answers::Kids;
-use louds::{zero_at, zero_from};
+use louds::Sequence;
 
 // A node with the place of its zero.
 #[derive(Clone, Copy)]
@@ -18,12 +18,12 @@ pub struct Stand {
 }
 
 // The stand at any node. Its zero is looked for from bit 0 on.
-pub fn stand_at(words: &[u64], len: usize, node: usize) -> Stand
-    ensures { result ≡ stand_at (bit words.now) len node }
+pub fn stand_at(bits: Sequence, node: usize) -> Stand
+    ensures { result ≡ stand_at (bit bits.entry.words.now) bits.entry.len node }
 {
     Stand {
         node,
-        zero: zero_at(words, len, node).unwrap_or(len),
+        zero: bits.zero_at(node).unwrap_or(bits.len),
     }
 }
 
@@ -38,18 +38,18 @@ fn is_stand(len: usize, node: usize, zero: usize) -> bool
 // The children of a stand: the ones behind its zero, up to the next zero or the end. A stand that cannot be one has
 // none.
 #[tactic(auto, unfolding(crate::specs::Stands::kids_from, crate::specs::Stands::is_stand))]
-pub fn kids(words: &[u64], len: usize, s: Stand) -> Kids
-    ensures { result ≡ kids_from (bit words.now) len s }
+pub fn kids(bits: Sequence, s: Stand) -> Kids
+    ensures { result ≡ kids_from (bit bits.entry.words.now) bits.entry.len s }
 {
-    if !is_stand(len, s.node, s.zero) {
+    if !is_stand(bits.len, s.node, s.zero) {
         return Kids {
             first: 0,
             count: 0,
-            next: len,
+            next: bits.len,
         };
     }
     let start = s.zero + 1;
-    let next = zero_from(words, len, start, 1).unwrap_or(len);
+    let next = bits.zero_from(start, 1).unwrap_or(bits.len);
     Kids {
         first: start - (s.node - 1),
         count: next - start,
@@ -59,14 +59,17 @@ pub fn kids(words: &[u64], len: usize, s: Stand) -> Kids
 
 // The stand at node m, a child of node k: its zero is looked for from the one behind the children of k on.
 #[tactic(auto, unfolding(crate::specs::Stands::kid_from))]
-pub fn kid_at(words: &[u64], len: usize, k: usize, next: usize, m: usize) -> Stand
-    ensures { result ≡ kid_from (bit words.now) len k next m }
+pub fn kid_at(bits: Sequence, k: usize, next: usize, m: usize) -> Stand
+    ensures { result ≡ kid_from (bit bits.entry.words.now) bits.entry.len k next m }
 {
     if m < k {
-        return Stand { node: m, zero: len };
+        return Stand {
+            node: m,
+            zero: bits.len,
+        };
     }
     Stand {
         node: m,
-        zero: zero_from(words, len, next, m - k).unwrap_or(len),
+        zero: bits.zero_from(next, m - k).unwrap_or(bits.len),
     }
 }

@@ -14,7 +14,7 @@ use Prim.Native.Nat.{ℕ, zero, suc, ◌+◌, ◌-◌, ◌≤◌, ◌<◌}
 use native.Mathlib.Omega.{arith}
 use mathlib.Core.Bool.{true, false}
 use mathlib.Core.List.{List, [], ◌∷◌, ◌++◌, append_assoc}
-use Rattle.std.specs.Prelude.{Option, None, Some, Result, Ok, Err}
+use Rattle.std.specs.Prelude.{Option, None, Some, Result}
 use lib.ListN.{length, get_or, take, drop, set, take-append-drop}
 use lib.Seq.{drop-length, take-suc, drop_at, set_at, length-take-le}
 use lib.Dec.{leb}
@@ -27,7 +27,6 @@ use Rattle.keymap.specs.Image.{Image, bits_for}
 use Rattle.keymap.specs.Paths.{IsNode, path_of, node_of}
 use Rattle.keymap.specs.Steps.{upper}
 use Rattle.keymap.specs.Decode.{image_map}
-use Rattle.keymap.specs.Refusals.{refusal_number}
 use Rattle.keymap.specs.declared.refusals.Refusal.{Refusal}
 use Rattle.keymap.specs.Answers.{told_count}
 use Rattle.keymap.proofs.Laws.Answers.{said-one, count-one}

@@ -11,19 +11,19 @@ pub returns-in_default : goal.returns-in_default
 returns-in_default c =
     let a = c.args in
     let l = c.loop-at in
-    let b = bit a.words.now in
-    let top = rise-lost b (bit-small a.words.now) a.len l.at l.invariant.0 _ c.parent_of.ensures c.in_default.is in
-    sym (l.invariant.1 ∙ below_by-lost b a.len a.top l.at.node (omega arith) top)
+    let b = bit a.bits.words.now in
+    let top = rise-lost b (bit-small a.bits.words.now) a.bits.len l.at l.invariant.0 _ c.parent_of.ensures c.in_default.is in
+    sym (l.invariant.1 ∙ below_by-lost b a.bits.len a.top l.at.node (omega arith) top)
 
 -- where the step led
 there : (c : In-Some)
     →
     let a = c.args in
-    RiseTold (bit a.words.now) a.len c.loop-at.at.node c.in-Some.up
+    RiseTold (bit a.bits.words.now) a.bits.len c.loop-at.at.node c.in-Some.up
 there c =
     let a = c.args in
     let l = c.loop-at in
-    rise-to (bit a.words.now) (bit-small a.words.now) a.len l.at l.invariant.0 _ c.parent_of.ensures _ c.in-Some.is
+    rise-to (bit a.bits.words.now) (bit-small a.bits.words.now) a.bits.len l.at l.invariant.0 _ c.parent_of.ensures _ c.in-Some.is
 
 pub loop-at-smaller : goal.loop-at-smaller
 loop-at-smaller c = (there c).lower
@@ -32,10 +32,10 @@ pub loop-at-preserved : goal.loop-at-preserved
 loop-at-preserved c =
     let a = c.args in
     let l = c.loop-at in
-    ((there c).knows, l.invariant.1 ∙ below_by-up (bit a.words.now) a.len a.top l.at.node _ (omega arith) (there c).node)
+    ((there c).knows, l.invariant.1 ∙ below_by-up (bit a.bits.words.now) a.bits.len a.top l.at.node _ (omega arith) (there c).node)
 
 pub returns : goal.returns
 returns c =
     let a = c.args in
     let l = c.loop-at in
-    sym (l.invariant.1 ∙ below_by-here (bit a.words.now) a.len a.top l.at.node (omega arith))
+    sym (l.invariant.1 ∙ below_by-here (bit a.bits.words.now) a.bits.len a.top l.at.node (omega arith))

@@ -8,7 +8,7 @@ use Rattle.climbs.proofs.below.is_below.Given as goal
 
 abbrev pub invariant-loop-at : goal.invariant-loop-at
 invariant-loop-at l =
-    (l.at ≡ perch_at (bit l.words) l.len l.at.node) × (below_by (bit l.words) l.len l.top l.node ≡ below_by (bit l.words) l.len l.top l.at.node)
+    (l.at ≡ perch_at (bit l.bits.words.now) l.bits.len l.at.node) × (below_by (bit l.bits.words.now) l.bits.len l.top l.node ≡ below_by (bit l.bits.words.now) l.bits.len l.top l.at.node)
 
 abbrev pub decreases-loop-at : goal.decreases-loop-at
 decreases-loop-at l = l.at.node

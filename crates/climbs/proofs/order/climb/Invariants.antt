@@ -6,7 +6,7 @@ use Rattle.climbs.specs.Moves.{climb_from}
 use Rattle.climbs.proofs.order.climb.Given as goal
 
 abbrev pub invariant-loop-at : goal.invariant-loop-at
-invariant-loop-at l = climb_from (bit l.words) l.len l.last l.top l.initial.at ≡ climb_from (bit l.words) l.len l.last l.top l.at
+invariant-loop-at l = climb_from (bit l.bits.words.now) l.bits.len l.last l.top l.initial.at ≡ climb_from (bit l.bits.words.now) l.bits.len l.last l.top l.at
 
 abbrev pub decreases-loop-at : goal.decreases-loop-at
 decreases-loop-at l = l.at.node

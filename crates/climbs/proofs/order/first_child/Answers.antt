@@ -9,4 +9,4 @@ pub overflow_sub-child : goal.overflow_sub-child
 overflow_sub-child c =
     let a = c.args in
     let may = sym c.leads_down.ensures ∙ c.if-not-leads_down.false in
-    omega (arith, (leads-told _ _ _ may).upto, zero-ahead (bit a.words.now) a.len a.last a.at may _ (sym c.zero_from.ensures ∙ c.in_ok-zero.was))
+    omega (arith, (leads-told _ _ _ may).upto, zero-ahead (bit a.bits.words.now) a.bits.len a.last a.at may _ (sym c.zero_from.ensures ∙ c.in_ok-zero.was))

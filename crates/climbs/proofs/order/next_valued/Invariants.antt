@@ -9,5 +9,5 @@ use Rattle.climbs.proofs.order.next_valued.Given as goal
 
 abbrev pub invariant-loop : goal.invariant-loop
 invariant-loop l =
-    (l.at ≡ perch_at (bit l.words) l.len l.at.node)
-    × (next_by l.labels l.values (bit l.words) l.len l.top l.node ≡ sought_from l.labels l.values (bit l.words) l.len l.top (length l.labels + 1 - l.counter) (advance_by (bit l.words) l.len (length l.labels + 1) l.top l.at.node))
+    (l.at ≡ perch_at (bit l.bits.words.now) l.bits.len l.at.node)
+    × (next_by l.labels l.values (bit l.bits.words.now) l.bits.len l.top l.node ≡ sought_from l.labels l.values (bit l.bits.words.now) l.bits.len l.top (length l.labels + 1 - l.counter) (advance_by (bit l.bits.words.now) l.bits.len (length l.labels + 1) l.top l.at.node))

@@ -7,7 +7,7 @@ use Rattle.climbs.proofs.perches.depth.Given as goal
 
 abbrev pub invariant-loop-up : goal.invariant-loop-up
 invariant-loop-up l =
-    (l.at ≡ perch_at (bit l.words) l.len l.at.node) × (l.count + l.at.node ≤ l.node) × (depth_by (bit l.words) l.len l.node ≡ l.count + depth_by (bit l.words) l.len l.at.node)
+    (l.at ≡ perch_at (bit l.bits.words.now) l.bits.len l.at.node) × (l.count + l.at.node ≤ l.node) × (depth_by (bit l.bits.words.now) l.bits.len l.node ≡ l.count + depth_by (bit l.bits.words.now) l.bits.len l.at.node)
 
 abbrev pub decreases-loop-up : goal.decreases-loop-up
 decreases-loop-up l = l.at.node

@@ -10,11 +10,11 @@ use Rattle.climbs.proofs.perches.perch_at.Goals as goal
 pub returns-in_default : goal.returns-in_default
 returns-in_default c =
     let a = c.args in
-    sym (perch-lost (bit a.words.now) (bit-small a.words.now) a.len a.node (sym c.parent.ensures ∙ c.in_default.is))
+    sym (perch-lost (bit a.bits.words.now) (bit-small a.bits.words.now) a.bits.len a.node (sym c.parent.ensures ∙ c.in_default.is))
 
 -- what the answer tells of the node's one
 up-told : (c : In-Some)
-    → UpTold (bit c.args.words.now) (bit-small c.args.words.now) c.args.len
+    → UpTold (bit c.args.bits.words.now) (bit-small c.args.bits.words.now) c.args.bits.len
     c.args.node
     c.in-Some.up
 up-told c = perch-up _ _ _ _ _ (sym c.parent.ensures ∙ c.in-Some.is)

@@ -8,5 +8,5 @@ use Rattle.climbs.proofs.spelling.spell.Given as goal
 
 abbrev pub invariant-loop-place : goal.invariant-loop-place
 invariant-loop-place l =
-    (l.at ≡ perch_at (bit l.words) l.len l.at.node)
-    × (spelled_by l.labels (bit l.words) l.len l.node l.count l.initial.out ≡ spelled_from l.labels (bit l.words) l.len l.place (Some l.at.node) l.out)
+    (l.at ≡ perch_at (bit l.bits.words.now) l.bits.len l.at.node)
+    × (spelled_by l.labels (bit l.bits.words.now) l.bits.len l.node l.count l.initial.out ≡ spelled_from l.labels (bit l.bits.words.now) l.bits.len l.place (Some l.at.node) l.out)

@@ -19,15 +19,15 @@ use Rattle.descents.proofs.far.go_far.Goals.{After-ones_from-rest, In_ok-m, then
 use Rattle.descents.proofs.far.go_far.Goals as goal
 
 pub loop-i-init : goal.loop-i-init
-loop-i-init c = (keeping_start c.args.words.now c.min-whole.result, refl, refl)
+loop-i-init c = (keeping_start c.args.bits.words.now c.whole_words-whole.result, refl, refl)
 
 -- the word that is kept now has the node's zero
 module _ (o : After-ones_from-rest) where
   abbrev ws : List ℕ
-  ws = o.args.words.now
+  ws = o.args.bits.words.now
 
   abbrev whole : ℕ
-  whole = o.min-whole.result
+  whole = o.whole_words-whole.result
 
   abbrev node : ℕ
   node = o.loop-i.node
@@ -42,7 +42,7 @@ module _ (o : After-ones_from-rest) where
   more = bit_and rest (rest - 1)
 
   wide : (i : ℕ) → get_or ws i 0 < 2 ^ word_bits
-  wide i = (o.type_inv.words i).fits
+  wide = o.whole_words-whole.ensures.wide
 
   settled : Settled ws whole node kept
   settled =
@@ -86,10 +86,10 @@ module _ (o : After-ones_from-rest) where
     sought = lowest_by o.args.labels.now node (to - from) (from + 1) label
 
     -- what a step answers, by the rule
-    step : low ≡ count_trailing_zeros word_bits rest → Next to → child_by o.args.labels.now (bit ws) o.args.len node label ≡ sought
+    step : low ≡ count_trailing_zeros word_bits rest → Next to → child_by o.args.labels.now (bit ws) o.args.bits.len node label ≡ sought
     step first next =
         let z = stands in
-        child-rule-far ws wide whole node kept settled rest o.ones_from-rest.ensures o.args.labels.now o.args.len label from to (omega (arith, o.min-whole.ensures))
+        child-rule-far ws wide whole node kept settled rest o.ones_from-rest.ensures o.args.labels.now o.args.bits.len label from to (omega (arith, o.whole_words-whole.ensures.count))
         (omega (arith, settled.kept, z.few, z.one, z.upto, z.near, z.lowest, first))
         next
 
@@ -97,8 +97,8 @@ pub returns-in_default : goal.returns-in_default
 returns-in_default c =
     let a = c.args in
     let l = c.loop-i in
-    gone-rule a.labels.now a.words.now a.len a.query.now l.node l.i l.kept.words l.kept.left l.invariant.1
-    (keeping-stand a.words.now c.min-whole.result l.node a.len l.kept l.invariant.0)
+    gone-rule a.labels.now a.bits.words.now a.bits.len a.query.now l.node l.i l.kept.words l.kept.left l.invariant.1
+    (keeping-stand a.bits.words.now c.whole_words-whole.result l.node a.bits.len l.kept l.invariant.0)
 
 pub overflow_sub-base : goal.overflow_sub-base
 overflow_sub-base c = (stands (goal.at.overflow_sub-base c).After-ones_from-rest).upto
@@ -125,8 +125,8 @@ returns-in_default-word_with_zero c =
     let a = c.args in
     let l = c.loop-i in
     let k = kept o in
-    gone-rule a.labels.now a.words.now a.len a.query.now l.node l.i k.words k.left l.invariant.1
-    (keeping-stand a.words.now (whole o) l.node a.len k (settled-keeping a.words.now (whole o) l.node k (settled o)))
+    gone-rule a.labels.now a.bits.words.now a.bits.len a.query.now l.node l.i k.words k.left l.invariant.1
+    (keeping-stand a.bits.words.now (whole o) l.node a.bits.len k (settled-keeping a.bits.words.now (whole o) l.node k (settled o)))
 
 pub overflow_sub-to-in-Some-word_with_zero : goal.overflow_sub-to-in-Some-word_with_zero
 overflow_sub-to-in-Some-word_with_zero c =
@@ -137,7 +137,7 @@ pub returns-in_err-m : goal.returns-in_err-m
 returns-in_err-m c =
     let a = c.args in
     let l = c.loop-i in
-    let b = bit a.words.now in
+    let b = bit a.bits.words.now in
     let o = (goal.at.returns-in_err-m c).After-ones_from-rest in
     let n : Next o c.if-more-ne0.to =
     elim c.if-more-ne0.branch [
@@ -145,13 +145,13 @@ returns-in_err-m c =
       | else-more-ne0+in-Some-word_with_zero e ↦ next-beyond o _ _ _ e.to-is e.if-more-ne0.false e.in-Some-word_with_zero.ensures e.lowest_one-in-Some-word_with_zero.ensures
     ] in
     let lost = step o c.lowest_one.result c.if-more-ne0.to _ c.lowest_one.ensures n ∙ sym c.in_err-m.ensures in
-    ap (went_on a.labels.now b a.len a.query.now) c.from_residual.ensures
+    ap (went_on a.labels.now b a.bits.len a.query.now) c.from_residual.ensures
     ∙ sym
-    (ap (reached_at b a.len)
+    (ap (reached_at b a.bits.len)
     (l.invariant.1
-    ∙ walked_from-next a.labels.now b a.len a.query.now l.i l.node c.loop-i-test.true
-    ∙ ap (walked_from a.labels.now b a.len (drop (l.i + 1) a.query.now)) lost
-    ∙ walked_from-lost a.labels.now b a.len (drop (l.i + 1) a.query.now)))
+    ∙ walked_from-next a.labels.now b a.bits.len a.query.now l.i l.node c.loop-i-test.true
+    ∙ ap (walked_from a.labels.now b a.bits.len (drop (l.i + 1) a.query.now)) lost
+    ∙ walked_from-lost a.labels.now b a.bits.len (drop (l.i + 1) a.query.now)))
 
 -- a child is above its node, and has an entry
 bounds : (c : In_ok-m) → (c.loop-i.node < c.in_ok-m.m) × (c.in_ok-m.m ≤ length c.args.labels.now + 1)
@@ -170,7 +170,7 @@ pub loop-i-preserved : goal.loop-i-preserved
 loop-i-preserved c =
     let a = c.args in
     let l = c.loop-i in
-    let b = bit a.words.now in
+    let b = bit a.bits.words.now in
     let o = (goal.at.loop-i-preserved c).After-ones_from-rest in
     let n : Next o c.if-more-ne0.to =
     elim c.if-more-ne0.branch [
@@ -180,8 +180,8 @@ loop-i-preserved c =
     let there = step o c.lowest_one.result c.if-more-ne0.to _ c.lowest_one.ensures n ∙ sym c.in_ok-m.ensures in (
       keeping-next (ws o) (whole o) l.node c.in_ok-m.m (kept o) (settled o) (omega (arith, bounds (goal.at.loop-i-preserved c).In_ok-m)),
       l.invariant.1
-          ∙ walked_from-next a.labels.now b a.len a.query.now l.i l.node c.loop-i-test.true
-          ∙ ap (walked_from a.labels.now b a.len (drop (l.i + 1) a.query.now)) there,
+          ∙ walked_from-next a.labels.now b a.bits.len a.query.now l.i l.node c.loop-i-test.true
+          ∙ ap (walked_from a.labels.now b a.bits.len (drop (l.i + 1) a.query.now)) there,
       l.invariant.2,
     )
 
@@ -190,6 +190,6 @@ returns-after-loop-i c =
     let a = c.args in
     let l = c.loop-i in
     let steps : l.i ≡ l.steps = omega (arith, c.loop-i-test.false, l.auto.i-end, l.invariant.2) in
-    gone-rule a.labels.now a.words.now a.len a.query.now l.node l.steps l.kept.words l.kept.left
-    (l.invariant.1 ∙ ap (λ (i : ℕ). walked_from a.labels.now (bit a.words.now) a.len (drop i a.query.now) (Some l.node)) steps)
-    (keeping-stand a.words.now c.min-whole.result l.node a.len l.kept l.invariant.0)
+    gone-rule a.labels.now a.bits.words.now a.bits.len a.query.now l.node l.steps l.kept.words l.kept.left
+    (l.invariant.1 ∙ ap (λ (i : ℕ). walked_from a.labels.now (bit a.bits.words.now) a.bits.len (drop i a.query.now) (Some l.node)) steps)
+    (keeping-stand a.bits.words.now c.whole_words-whole.result l.node a.bits.len l.kept l.invariant.0)

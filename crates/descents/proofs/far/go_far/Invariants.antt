@@ -10,6 +10,6 @@ use Rattle.descents.proofs.far.go_far.Given as goal
 
 abbrev pub invariant-loop-i : goal.invariant-loop-i
 invariant-loop-i l =
-    Keeping l.words l.whole l.node l.kept
-    × (walked l.labels (bit l.words) l.len l.query ≡ walked_from l.labels (bit l.words) l.len (drop l.i l.query) (Some l.node))
+    Keeping l.bits.words.now l.whole l.node l.kept
+    × (walked l.labels (bit l.bits.words.now) l.bits.len l.query ≡ walked_from l.labels (bit l.bits.words.now) l.bits.len (drop l.i l.query) (Some l.node))
     × (l.steps ≡ length l.query)

@@ -9,5 +9,5 @@ use Rattle.descents.proofs.queries.go_on.Given as goal
 
 abbrev pub invariant-loop-j : goal.invariant-loop-j
 invariant-loop-j l =
-    down_along l.labels (bit l.words) l.len (drop l.steps l.query) (Some (stand_near (bit l.words) l.len l.node l.kept l.left))
-    ≡ down_along l.labels (bit l.words) l.len (drop l.j l.query) (Some l.s)
+    down_along l.labels (bit l.bits.words.now) l.bits.len (drop l.steps l.query) (Some (stand_near (bit l.bits.words.now) l.bits.len l.node l.kept l.left))
+    ≡ down_along l.labels (bit l.bits.words.now) l.bits.len (drop l.j l.query) (Some l.s)

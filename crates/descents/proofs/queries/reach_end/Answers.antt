@@ -10,6 +10,6 @@ use Rattle.descents.proofs.queries.reach_end.Goals as goal
 pub returns-then-query-steps : goal.returns-then-query-steps
 returns-then-query-steps c =
     let a = c.args in
-    let b = bit a.words.now in
+    let b = bit a.bits.words.now in
     let g = c.in_ok-node.field-0 in
-    sym (down_along-over a.labels.now b a.len a.query.now g.steps (Some (stand_near b a.len g.node g.kept g.left)) (omega (arith, c.if-query-steps.true))) ∙ c.in_ok-node.ensures
+    sym (down_along-over a.labels.now b a.bits.len a.query.now g.steps (Some (stand_near b a.bits.len g.node g.kept g.left)) (omega (arith, c.if-query-steps.true))) ∙ c.in_ok-node.ensures

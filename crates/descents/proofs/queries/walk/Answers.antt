@@ -12,9 +12,9 @@ use Rattle.descents.proofs.queries.walk.Goals as goal
 pub returns-in-Near : goal.returns-in-Near
 returns-in-Near c =
     let a = c.args in
-    let b = bit a.words.now in
+    let b = bit a.bits.words.now in
     let n = c.in-Near in
     c.go_on.ensures
-    ∙ down_along-over a.labels.now b a.len a.query.now (length a.query.now) (Some (stand_near b a.len n.node n.kept n.left)) (omega arith)
-    ∙ ap (λ (r : Ended). ended_at b a.len (Some r)) (sym n.is)
+    ∙ down_along-over a.labels.now b a.bits.len a.query.now (length a.query.now) (Some (stand_near b a.bits.len n.node n.kept n.left)) (omega arith)
+    ∙ ap (λ (r : Ended). ended_at b a.bits.len (Some r)) (sym n.is)
     ∙ c.in_ok-node.ensures

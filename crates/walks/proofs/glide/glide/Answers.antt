@@ -13,30 +13,30 @@ use Rattle.walks.proofs.glide.glide.Goals as goal
 pub loop-t-init : goal.loop-t-init
 loop-t-init c =
     let a = c.args in
-    (omega arith, glided-starts a.labels.now a.values.now (bit a.words.now) a.len a.s)
+    (omega arith, glided-starts a.labels.now a.values.now (bit a.bits.words.now) a.bits.len a.s)
 
 pub returns : goal.returns
 returns c =
     let a = c.args in
     let l = c.loop-t in
-    let b = bit a.words.now in
-    let ends = onward-end a.labels.now a.values.now b a.len l.stand (sym c.onward.ensures ∙ c.in_default.is) in
-    sym (l.invariant.1 ∙ glides-end a.labels.now a.values.now b a.len (length a.labels.now + 1 - l.stand.node) l.stand l.steps ends)
+    let b = bit a.bits.words.now in
+    let ends = onward-end a.labels.now a.values.now b a.bits.len l.stand (sym c.onward.ensures ∙ c.in_default.is) in
+    sym (l.invariant.1 ∙ glides-end a.labels.now a.values.now b a.bits.len (length a.labels.now + 1 - l.stand.node) l.stand l.steps ends)
 
 -- the step that was made
 further : (c : In-Some)
-    → (goes_through c.args.labels.now c.args.values.now (bit c.args.words.now) c.args.len c.loop-t.stand ≡ true)
-    × (only_kid (bit c.args.words.now) c.args.len c.loop-t.stand ≡ c.in-Some.t)
+    → (goes_through c.args.labels.now c.args.values.now (bit c.args.bits.words.now) c.args.bits.len c.loop-t.stand ≡ true)
+    × (only_kid (bit c.args.bits.words.now) c.args.bits.len c.loop-t.stand ≡ c.in-Some.t)
 further c =
     let a = c.args in
-    onward-to a.labels.now a.values.now (bit a.words.now) a.len c.loop-t.stand _ (sym c.onward.ensures ∙ c.in-Some.is)
+    onward-to a.labels.now a.values.now (bit a.bits.words.now) a.bits.len c.loop-t.stand _ (sym c.onward.ensures ∙ c.in-Some.is)
 
 -- it led to a higher number, up to n + 1
 higher : (c : In-Some)
     → (c.loop-t.stand.node < c.in-Some.t.node) × (c.in-Some.t.node ≤ length c.args.labels.now + 1)
 higher c =
     let a = c.args in
-    let t = through-told a.labels.now a.values.now (bit a.words.now) a.len c.loop-t.stand (further c).0 in
+    let t = through-told a.labels.now a.values.now (bit a.bits.words.now) a.bits.len c.loop-t.stand (further c).0 in
     let node = ap (λ (s : Stand). s.node) (further c).1 in
     (omega (arith, t.above, node), omega (arith, t.within, node))
 
@@ -50,9 +50,9 @@ pub loop-t-preserved : goal.loop-t-preserved
 loop-t-preserved c =
     let a = c.args in
     let l = c.loop-t in
-    let b = bit a.words.now in (
+    let b = bit a.bits.words.now in (
       omega (arith, l.invariant.0, higher c),
       l.invariant.1
-          ∙ glides-on a.labels.now a.values.now b a.len l.stand l.steps (further c).0
-          ∙ ap (λ (s : Stand). glides a.labels.now a.values.now b a.len (length a.labels.now + 1 - s.node) s (l.steps + 1)) (further c).1,
+          ∙ glides-on a.labels.now a.values.now b a.bits.len l.stand l.steps (further c).0
+          ∙ ap (λ (s : Stand). glides a.labels.now a.values.now b a.bits.len (length a.labels.now + 1 - s.node) s (l.steps + 1)) (further c).1,
     )

@@ -8,7 +8,7 @@ use Rattle.walks.proofs.glide.glide.Given as goal
 
 abbrev pub invariant-loop-t : goal.invariant-loop-t
 invariant-loop-t l =
-    (l.steps ≤ l.stand.node) × (glided_from l.labels l.values (bit l.words) l.len l.initial.stand ≡ glides l.labels l.values (bit l.words) l.len (length l.labels + 1 - l.stand.node) l.stand l.steps)
+    (l.steps ≤ l.stand.node) × (glided_from l.labels l.values (bit l.bits.words.now) l.bits.len l.initial.stand ≡ glides l.labels l.values (bit l.bits.words.now) l.bits.len (length l.labels + 1 - l.stand.node) l.stand l.steps)
 
 abbrev pub decreases-loop-t : goal.decreases-loop-t
 decreases-loop-t l = length l.labels + 1 - l.stand.node

@@ -7,4 +7,4 @@ use Rattle.walks.proofs.stands.kid_at.Goals as goal
 pub returns-then-m-k : goal.returns-then-m-k
 returns-then-m-k c =
     let a = c.args in
-    sym (kid_from-below (bit a.words.now) a.len a.k a.next a.m c.if-m-k.true)
+    sym (kid_from-below (bit a.bits.words.now) a.bits.len a.k a.next a.m c.if-m-k.true)

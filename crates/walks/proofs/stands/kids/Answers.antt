@@ -12,5 +12,5 @@ overflow_sub-result-3 c =
     let t = is_stand-told _ _ _ (sym c.is_stand.ensures ∙ c.if-not-is_stand.false) in
     let spot = c.zero_from.ensures in
     let found = c.unwrap_or-next.ensures in
-    let next : c.unwrap_or-next.result ≡ next_zero (bit a.words.now) a.len a.s.zero = cc in
-    omega (arith, next, next_zero-ahead (bit a.words.now) a.len a.s.zero t.0)
+    let next : c.unwrap_or-next.result ≡ next_zero (bit a.bits.words.now) a.bits.len a.s.zero = cc in
+    omega (arith, next, next_zero-ahead (bit a.bits.words.now) a.bits.len a.s.zero t.0)

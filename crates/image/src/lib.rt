@@ -22,7 +22,7 @@ pub use acceptance::{is_image, lengths_fit};
 pub use buffers::words_for;
 pub use entries::MARK;
 use keymap::Refusal;
-use records::soundness::check_sound;
+use pool::soundness::check_sound;
 use records::words::used_count;
 
 // Refuses slices that are no map's image. It only reads.

@@ -15,6 +15,9 @@ use Rattle.pool.proofs.use_count.Reads as use-count-reads
 use Rattle.pool.specs.contracts.push
 use Rattle.pool.proofs.push.Kinds as push-kinds
 use Rattle.pool.proofs.push.Reads as push-reads
+use Rattle.pool.specs.contracts.soundness.check_sound
+use Rattle.pool.proofs.soundness.check_sound.Kinds as check-sound-kinds
+use Rattle.pool.proofs.soundness.check_sound.Reads as check-sound-reads
 
 module _ (κs : Lfts 1) (a : ArgsD reset.signature κs) (r₁ r₂ : ResD reset.signature κs) (s₁ s₂ : AtExit (ended_of 1 reset-kinds.ps reset-kinds.r) κs) where
   pub reset-determined : reset-reads.Post κs a r₁ s₁ → reset-reads.Post κs a r₂ s₂ → (r₁ ≡ r₂) × (s₁.0.now ≡ s₂.0.now)
@@ -27,3 +30,7 @@ module _ (κs : Lfts 1) (a : ArgsD use_count.signature κs) (r₁ r₂ : ResD us
 module _ (κs : Lfts 2) (a : ArgsD push.signature κs) (r₁ r₂ : ResD push.signature κs) (s₁ s₂ : AtExit (ended_of 2 push-kinds.ps push-kinds.r) κs) where
   pub push-determined : push-reads.Post κs a r₁ s₁ → push-reads.Post κs a r₂ s₂ → (r₁ ≡ r₂) × (s₁.0.now ≡ s₂.0.now)
   push-determined p q = (said-pushed-one r₁ r₂ (p.0 ∙ sym q.0), p.1 ∙ sym q.1)
+
+module _ (κs : Lfts 1) (a : ArgsD check_sound.signature κs) (r₁ r₂ : ResD check_sound.signature κs) (s₁ s₂ : AtExit (ended_of 1 check-sound-kinds.ps check-sound-kinds.r) κs) where
+  pub check-sound-determined : check-sound-reads.Post κs a r₁ s₁ → check-sound-reads.Post κs a r₂ s₂ → r₁ ≡ r₂
+  check-sound-determined p q = p.0 ∙ sym q.0

@@ -8,6 +8,7 @@
 mod path;
 mod pushing;
 mod siblings;
+pub mod soundness;
 mod words;
 
 ghost use Rattle.std.specs.Prelude.{◌≡◌};
@@ -17,9 +18,9 @@ ghost use Rattle.pool.specs.UseCount.{use_count_says};
 ghost use Rattle.pool.specs.Push.{push_says, push_pool};
 
 use crate::pushing::push_tested;
+use crate::soundness::check_sound;
 use crate::words::fill;
 use keymap::Refusal;
-use records::soundness::check_sound;
 use records::words::{RECORD_WORDS, used_count};
 
 // Zeroes record 0 of any pool of 5 words or more.

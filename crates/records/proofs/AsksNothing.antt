@@ -21,8 +21,6 @@ use Rattle.records.specs.contracts.words.capacity_of
 use Rattle.records.proofs.words.capacity_of.Reads as capacity-of-reads
 use Rattle.records.specs.contracts.soundness.is_sound
 use Rattle.records.proofs.soundness.is_sound.Reads as is-sound-reads
-use Rattle.records.specs.contracts.soundness.check_sound
-use Rattle.records.proofs.soundness.check_sound.Reads as check-sound-reads
 
 pub entry-of-asks-nothing : (κs : Lfts 1) (a : ArgsD entry_of.signature κs) → entry-of-reads.Pre κs a
 entry-of-asks-nothing κs a = tt
@@ -53,6 +51,3 @@ capacity-of-asks-nothing κs a = tt
 
 pub is-sound-asks-nothing : (κs : Lfts 1) (a : ArgsD is_sound.signature κs) → is-sound-reads.Pre κs a
 is-sound-asks-nothing κs a = tt
-
-pub check-sound-asks-nothing : (κs : Lfts 1) (a : ArgsD check_sound.signature κs) → check-sound-reads.Pre κs a
-check-sound-asks-nothing κs a = tt

@@ -35,9 +35,6 @@ use Rattle.records.proofs.words.capacity_of.Reads as capacity-of-reads
 use Rattle.records.specs.contracts.soundness.is_sound
 use Rattle.records.proofs.soundness.is_sound.Kinds as is-sound-kinds
 use Rattle.records.proofs.soundness.is_sound.Reads as is-sound-reads
-use Rattle.records.specs.contracts.soundness.check_sound
-use Rattle.records.proofs.soundness.check_sound.Kinds as check-sound-kinds
-use Rattle.records.proofs.soundness.check_sound.Reads as check-sound-reads
 
 module _ (κs : Lfts 1) (a : ArgsD entry_of.signature κs) (r₁ r₂ : ResD entry_of.signature κs) (s₁ s₂ : AtExit (ended_of 1 entry-of-kinds.ps entry-of-kinds.r) κs) where
   pub entry-of-determined : entry-of-reads.Post κs a r₁ s₁ → entry-of-reads.Post κs a r₂ s₂ → r₁ ≡ r₂
@@ -78,7 +75,3 @@ module _ (κs : Lfts 1) (a : ArgsD capacity_of.signature κs) (r₁ r₂ : ResD 
 module _ (κs : Lfts 1) (a : ArgsD is_sound.signature κs) (r₁ r₂ : ResD is_sound.signature κs) (s₁ s₂ : AtExit (ended_of 1 is-sound-kinds.ps is-sound-kinds.r) κs) where
   pub is-sound-determined : is-sound-reads.Post κs a r₁ s₁ → is-sound-reads.Post κs a r₂ s₂ → r₁ ≡ r₂
   is-sound-determined p q = p.0 ∙ sym q.0
-
-module _ (κs : Lfts 1) (a : ArgsD check_sound.signature κs) (r₁ r₂ : ResD check_sound.signature κs) (s₁ s₂ : AtExit (ended_of 1 check-sound-kinds.ps check-sound-kinds.r) κs) where
-  pub check-sound-determined : check-sound-reads.Post κs a r₁ s₁ → check-sound-reads.Post κs a r₂ s₂ → r₁ ≡ r₂
-  check-sound-determined p q = p.0 ∙ sym q.0

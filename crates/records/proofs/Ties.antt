@@ -1,13 +1,12 @@
 -- What each public call's contract says, in the definitions that the demands speak of: the answer, and each lent slice that it may write at exit.
 -- Each tie is over the contract's own claim, so a contract that cites another definition breaks it. Assumes nothing.
 use mathlib.Core.Path.{◌≡◌}
-use Rattle.std.specs.Prelude.{Ok}
 use Rattle.keymap.specs.Contract.{Tells}
 use mathlib.Core.Bool.{true}
 use mathlib.Core.Logic.{◌↔◌}
 use Rattle.records.specs.Words.{entry, label, value, first_child, next_sibling, parent, last_record, used_count, capacity}
 use Rattle.records.specs.Sound.{Sound}
-use Rattle.records.specs.SoundTest.{sound_test, check_sound}
+use Rattle.records.specs.SoundTest.{sound_test}
 use Rattle.records.proofs.words.entry_of.Kinds as entry-of-kinds
 use Rattle.records.proofs.words.entry_of.Reads as entry-of-reads
 use Rattle.records.proofs.words.label_of.Kinds as label-of-kinds
@@ -28,8 +27,6 @@ use Rattle.records.proofs.words.capacity_of.Kinds as capacity-of-kinds
 use Rattle.records.proofs.words.capacity_of.Reads as capacity-of-reads
 use Rattle.records.proofs.soundness.is_sound.Kinds as is-sound-kinds
 use Rattle.records.proofs.soundness.is_sound.Reads as is-sound-reads
-use Rattle.records.proofs.soundness.check_sound.Kinds as check-sound-kinds
-use Rattle.records.proofs.soundness.check_sound.Reads as check-sound-reads
 
 pub entry-of-says : Tells 1 entry-of-kinds.ps entry-of-kinds.r entry-of-reads.Post (λ κs a r s. r ≡ entry a.0.now a.1.0)
 entry-of-says κs a r s p = p
@@ -60,6 +57,3 @@ capacity-of-says κs a r s p = p
 
 pub is-sound-says : Tells 1 is-sound-kinds.ps is-sound-kinds.r is-sound-reads.Post (λ κs a r s. (r ≡ sound_test a.0.now) × ((r ≡ true) ↔ Sound a.0.now))
 is-sound-says κs a r s p = p
-
-pub check-sound-says : Tells 1 check-sound-kinds.ps check-sound-kinds.r check-sound-reads.Post (λ κs a r s. (r ≡ check_sound a.0.now) × ((r ≡ Ok tt) ↔ Sound a.0.now))
-check-sound-says κs a r s p = p

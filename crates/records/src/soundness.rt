@@ -1,18 +1,17 @@
 // Is this slice a sound pool? One pass over the records and their chains, with no memory of its own: each record met in
 // a chain is counted off,
 // so the pass ends on any words, also where chains loop or numbers lie beyond the pool.
-ghost use Rattle.std.specs.Prelude.{◌≡◌, true, ◌↔◌, suc, ◌≤◌, Some, Ok};
+ghost use Rattle.std.specs.Prelude.{◌≡◌, true, ◌↔◌, suc, ◌≤◌, Some};
 ghost use Rattle.keymap.specs.Limits.{most_records};
 ghost use Rattle.records.specs.Words.{first_child};
 ghost use Rattle.records.specs.Sound.{Sound};
 ghost use Rattle.records.specs.SoundTest.{words_fit, record_fits, is_child, chain_rest, record_rest, pass_rest};
-ghost use Rattle.records.specs.SoundTest.{root_fits, sound_test, check_sound};
+ghost use Rattle.records.specs.SoundTest.{root_fits, sound_test};
 
 use crate::words::{
     BYTE_LIMIT, MARK, RECORD_WORDS, capacity_of, entry_of, first_child, label_of, last_record,
     next_sibling, parent_of, used_count, value_of,
 };
-use keymap::Refusal;
 
 // Five words can be those of record c, where n is the last record.
 #[tactic(auto, using(crate::proofs::Laws::SoundTest::tests), unfolding(crate::specs::SoundTest::words_fit))]
@@ -107,18 +106,4 @@ pub fn is_sound(pool: &[u32]) -> bool
     RECORD_WORDS <= pool.len()
         && root_fits(n, most, v, x, q)
         && all_records(pool, n, used_count(pool)) == Some(0)
-}
-
-// Refuses a slice that is no sound pool: what each call answers that asks for one.
-pub fn check_sound(pool: &[u32]) -> Result<(), Refusal>
-    ensures answer { result ≡ check_sound pool.now }
-    ensures meaning { (result ≡ Ok tt) ↔ Sound pool.now }
-{
-    if pool.len() < RECORD_WORDS {
-        return Err(Refusal::PoolTooSmall);
-    }
-    if !is_sound(pool) {
-        return Err(Refusal::NotAPool);
-    }
-    Ok(())
 }

@@ -2,8 +2,8 @@
 -- A law that is missing leaves its name here unknown. Assumes nothing.
 pub use Rattle.keymap.proofs.AsksNothing.{refusal-number-asks-nothing}
 pub use Rattle.louds.proofs.AsksNothing.{bit-at-asks-nothing, ones-in-asks-nothing, ones-before-asks-nothing, zeros-before-asks-nothing, lowest-one-asks-nothing, zero-at-asks-nothing, zero-from-asks-nothing, one-at-asks-nothing, one-back-asks-nothing, children-asks-nothing, parent-asks-nothing, put-one-asks-nothing, ones-by-byte-asks-nothing, ones-from-asks-nothing}
-pub use Rattle.records.proofs.AsksNothing.{entry-of-asks-nothing, label-of-asks-nothing, value-of-asks-nothing, first-child-asks-nothing, next-sibling-asks-nothing, parent-of-asks-nothing, last-record-asks-nothing, used-count-asks-nothing, capacity-of-asks-nothing, is-sound-asks-nothing, check-sound-asks-nothing}
-pub use Rattle.pool.proofs.AsksNothing.{reset-asks-nothing, use-count-asks-nothing, push-asks-nothing}
+pub use Rattle.records.proofs.AsksNothing.{entry-of-asks-nothing, label-of-asks-nothing, value-of-asks-nothing, first-child-asks-nothing, next-sibling-asks-nothing, parent-of-asks-nothing, last-record-asks-nothing, used-count-asks-nothing, capacity-of-asks-nothing, is-sound-asks-nothing}
+pub use Rattle.pool.proofs.AsksNothing.{reset-asks-nothing, use-count-asks-nothing, push-asks-nothing, check-sound-asks-nothing}
 pub use Rattle.image.proofs.AsksNothing.{accept-asks-nothing, is-image-asks-nothing, build-asks-nothing, lengths-fit-asks-nothing, words-for-asks-nothing}
 pub use Rattle.lines.proofs.AsksNothing.{tab-line-asks-nothing, tab-line-key-asks-nothing, next-line-asks-nothing, write-line-asks-nothing}
 pub use Rattle.walks.proofs.AsksNothing.{is-node-asks-nothing, counts-to-asks-nothing, value-at-asks-nothing, stand-at-asks-nothing, kids-asks-nothing, kid-at-asks-nothing, down-asks-nothing, glide-asks-nothing, entry-matches-asks-nothing, child-within-asks-nothing}

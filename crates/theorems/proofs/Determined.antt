@@ -3,8 +3,8 @@
 -- A law that is missing leaves its name here unknown. Assumes nothing.
 pub use Rattle.keymap.proofs.Determined.{refusal-number-determined}
 pub use Rattle.louds.proofs.Determined.{bit-at-determined, ones-before-determined, zeros-before-determined, zero-at-determined, zero-from-determined, one-at-determined, one-back-determined, children-determined, parent-determined, put-one-determined, ones-in-determined, lowest-one-determined, ones-by-byte-determined, ones-from-determined}
-pub use Rattle.records.proofs.Determined.{entry-of-determined, label-of-determined, value-of-determined, first-child-determined, next-sibling-determined, parent-of-determined, last-record-determined, used-count-determined, capacity-of-determined, is-sound-determined, check-sound-determined}
-pub use Rattle.pool.proofs.Determined.{reset-determined, use-count-determined, push-determined}
+pub use Rattle.records.proofs.Determined.{entry-of-determined, label-of-determined, value-of-determined, first-child-determined, next-sibling-determined, parent-of-determined, last-record-determined, used-count-determined, capacity-of-determined, is-sound-determined}
+pub use Rattle.pool.proofs.Determined.{reset-determined, use-count-determined, push-determined, check-sound-determined}
 pub use Rattle.image.proofs.Determined.{accept-determined, is-image-determined, lengths-fit-determined, build-determined, words-for-determined}
 pub use Rattle.lines.proofs.Determined.{tab-line-determined, tab-line-key-determined, next-line-determined, write-line-determined}
 pub use Rattle.walks.proofs.Determined.{is-node-determined, counts-to-determined, value-at-determined, stand-at-determined, kids-determined, kid-at-determined, down-determined, glide-determined, entry-matches-determined, child-within-determined}

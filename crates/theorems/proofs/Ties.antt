@@ -3,8 +3,8 @@
 -- A tie that is missing leaves its name here unknown. Assumes nothing.
 pub use Rattle.keymap.proofs.Ties.{refusal-number-says}
 pub use Rattle.louds.proofs.Ties.{bit-at-says, put-one-says, ones-before-says, zeros-before-says, zero-at-says, zero-from-says, one-at-says, one-back-says, children-says, parent-says, ones-in-says, lowest-one-says, ones-by-byte-says, ones-from-says}
-pub use Rattle.records.proofs.Ties.{entry-of-says, label-of-says, value-of-says, first-child-says, next-sibling-says, parent-of-says, last-record-says, used-count-says, capacity-of-says, is-sound-says, check-sound-says}
-pub use Rattle.pool.proofs.Ties.{reset-says, use-count-says, push-says}
+pub use Rattle.records.proofs.Ties.{entry-of-says, label-of-says, value-of-says, first-child-says, next-sibling-says, parent-of-says, last-record-says, used-count-says, capacity-of-says, is-sound-says}
+pub use Rattle.pool.proofs.Ties.{reset-says, use-count-says, push-says, check-sound-says}
 pub use Rattle.image.proofs.Ties.{is-image-says, lengths-fit-says, accept-says, build-says, words-for-says}
 pub use Rattle.lines.proofs.Ties.{tab-line-says, tab-line-key-says, next-line-says, write-line-says}
 pub use Rattle.walks.proofs.Ties.{is-node-says, counts-to-says, value-at-says, stand-at-says, kids-says, kid-at-says, down-says, glide-says, entry-matches-says, child-within-says}

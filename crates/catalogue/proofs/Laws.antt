@@ -6,4 +6,5 @@ pub mod TextAnswers
 pub mod Building
 pub mod Next
 pub mod Listing
+pub mod ByNumbers
 pub mod Program

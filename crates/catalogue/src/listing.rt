@@ -9,8 +9,12 @@ ghost use Rattle.image.specs.Meaning.{image_in, lent_image, MapImage};
 ghost use Rattle.lines.specs.Writing.{map_text};
 
 use crate::putting::put_value;
-use listings::answers::Stepped;
-use listings::{cursor_key, predictive_search, step};
+use climbs::order::next_valued;
+use climbs::perches::depth;
+use climbs::spelling::spell;
+use listings::answers::Cursor;
+use listings::predictive_search;
+use louds::Sequence;
 
 // Builds the image of a pool's map and puts its listing at the start of `out`; answers the listing's length.
 pub fn list_pool(
@@ -43,32 +47,32 @@ pub fn list_pool(
 }
 
 // Puts the listing of an image's map at the start of a buffer that holds it, each key straight behind the line before;
-// answers its length.
+// answers its length. The start of the listing tests the image. What is gone over then is still that image, so the
+// calls below a cursor's take the place of its steps and keys: each of these would test it again, which took the
+// program up to twice the time.
 fn list_image(labels: &[u16], values: &[u32], words: &[u64], out: &mut [u8]) -> usize
     requires of_map { MapImage (image_in labels values words) }
     requires room { length (map_text (image_map (image_in labels values words))) ≤ length out.old }
     ensures answer { result ≡ length (map_text (image_map (lent_image labels values words))) }
     ensures out { out.new ≡ over (map_text (image_map (lent_image labels values words))) out.old }
 {
-    // no call is refused on a map's image, in a buffer that holds the listing
-    let Ok(mut cursor) = predictive_search(labels, values, words, b"") else {
+    // no start is refused on a map's image, and that of a map without entries is finished
+    let Ok(start) = predictive_search(labels, values, words, b"") else {
         return 0;
     };
+    let Cursor::Open { kind: _, top, last } = start else {
+        return 0;
+    };
+    let len = 2 * labels.len() + 3;
+    let bits = Sequence { words, len };
+    let root = top as usize;
+    let mut node = last as usize;
     let mut at = 0;
-    while let Ok(given) = step(labels, values, words, cursor) {
-        let Stepped::Gave {
-            node: _,
-            value,
-            next,
-        } = given
-        else {
-            return at;
-        };
-        let Ok(length) = cursor_key(labels, values, words, next, &mut out[at..]) else {
-            return at;
-        };
-        at = put_value(value, at + length, out);
-        cursor = next;
+    while let Some(key) = next_valued(labels, values, bits, root, node.max(root)) {
+        let length = depth(bits, key.node);
+        spell(labels, bits, key.node, length, &mut out[at..]);
+        at = put_value(key.value, at + length, out);
+        node = key.node;
     }
     at
 }

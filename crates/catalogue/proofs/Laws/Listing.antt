@@ -1,7 +1,9 @@
 -- A listing put into a buffer, entry by entry: what stands before the place to go on from, and the text of the rest, are together the text of the map.
 --
 --     start-told              no start on a map's image is refused
---     Listed, listing-starts  before the first step; `listing-within`: the place is inside the buffer
+--     Listed, listing-starts  before the first step; `listing-within`: the place is inside the buffer;
+--                             `listing-belongs`: the cursor belongs
+--     listing-opens, listing-none  where the listing begins, and that without an entry it does not
 --     Turn, listing-turn      a step that gave an entry: its key and what stands behind the key have room, and with
 --                             them put the listing stands behind it
 --     listing-ends            a step that gave none: the text of the map is put
@@ -28,7 +30,7 @@ use Rattle.keymap.specs.Paths.{nodes, path_of, node_of}
 use Rattle.keymap.specs.Buffers.{over}
 use Rattle.keymap.proofs.Laws.Begins.{prefix-empty}
 use Rattle.keymap.proofs.Laws.Queries.{keep_all}
-use Rattle.keymap.proofs.Laws.Paths.{path_of-node_of, node_of-node, nodes-iff}
+use Rattle.keymap.proofs.Laws.Paths.{path_of-node_of, node_of-node, node_of-root, nodes-iff}
 use Rattle.keymap.proofs.Laws.Buffers.{length_over}
 use Rattle.image.specs.Meaning.{MapImage}
 use Rattle.image.proofs.Laws.Meaning.{map_image-tested}
@@ -72,38 +74,42 @@ finished-belongs : (m : Map) (kind : Kind) → belongs m (Finished kind) ≡ tru
 unfolding belongs
 finished-belongs m kind = refl
 
+-- the cursor that a start gives: at the root, or finished where there is no entry
+start-is : (i : Image) → MapImage i → (c : Cursor) → said_started (Ok c) ≡ start_says kinds.Predictive i []
+    → c ≡ cond (nonempty (image_map i)) (Open kinds.Predictive (node_of (image_map i) []) 0) (Finished kinds.Predictive)
+start-is i image c h = at (first m) (h ∙ start_says-accepted i kinds.Predictive [] (map_image-tested i image) ∙ ap (λ (x : Map). 0 ∷ said_cursor (first x)) (beginning-all m))
+  where
+    m : Map
+    m = image_map i
+
+    first : Map → Cursor
+    first n = cond (nonempty n) (Open kinds.Predictive (node_of m []) 0) (Finished kinds.Predictive)
+
+    at : (d : Cursor) → 0 ∷ said_cursor c ≡ 0 ∷ said_cursor d → c ≡ d
+    at d q = let cursors : said_cursor c ≡ said_cursor d = cc in said_cursor-one c d cursors
+
 start-rest : (i : Image) → MapImage i → (c : Cursor) → said_started (Ok c) ≡ start_says kinds.Predictive i [] → Stands i c (image_map i)
 start-rest i image c h = go m refl
   where
     m : Map
     m = image_map i
 
-    all : set_of m kinds.Predictive [] ≡ m
-    all = beginning-all m
-
     first : Map → Cursor
     first n = cond (nonempty n) (Open kinds.Predictive (node_of m []) 0) (Finished kinds.Predictive)
-
-    said : (n : Map) → m ≡ n → 0 ∷ said_cursor c ≡ 0 ∷ said_cursor (first n)
-    said n e =
-        h ∙ start_says-accepted i kinds.Predictive [] (map_image-tested i image) ∙ ap (λ (x : Map). 0 ∷ said_cursor (first x)) (all ∙ e)
-
-    at : (d : Cursor) → 0 ∷ said_cursor c ≡ 0 ∷ said_cursor d → c ≡ d
-    at d q = let cursors : said_cursor c ≡ said_cursor d = cc in said_cursor-one c d cursors
 
     root : In [] (nodes m)
     root = (nodes-iff m []).1 (inl refl)
 
     go : (n : Map) → m ≡ n → Stands i c (image_map i)
     go [] e =
-        let is : c ≡ Finished kinds.Predictive = at (Finished kinds.Predictive) (said [] e) in
+        let is : c ≡ Finished kinds.Predictive = start-is i image c h ∙ ap first e in
         record { belonging = ap (belongs m) is ∙ finished-belongs m kinds.Predictive; predictive = ap kind_of is; rest-is = ap (rest_of m) is ∙ sym e }
     go (d ∷ n) e =
-        let is : c ≡ Open kinds.Predictive (node_of m []) 0 = at (Open kinds.Predictive (node_of m []) 0) (said (d ∷ n) e) in
+        let is : c ≡ Open kinds.Predictive (node_of m []) 0 = start-is i image c h ∙ ap first e in
         record {
           belonging = ap (belongs m) is ∙ belongs-fresh m image.catalogue.rising kinds.Predictive (node_of m []) (node_of-node m [] root);
           predictive = ap kind_of is;
-          rest-is = ap (rest_of m) is ∙ ap (λ (q : Key). set_of m kinds.Predictive q) (path_of-node_of m [] root) ∙ all;
+          rest-is = ap (rest_of m) is ∙ ap (λ (q : Key). set_of m kinds.Predictive q) (path_of-node_of m [] root) ∙ beginning-all m;
         }
 
 pub start-told : (i : Image) → MapImage i → (q : Key) (r : Refusal) → ¬ (said_started (Err r) ≡ start_says kinds.Predictive i q)
@@ -163,6 +169,9 @@ pub record Listed (i : Image) (out₀ : List ℕ) (c : Cursor) (at : ℕ) (out :
 -- a step gave an entry with that value, and the cursor behind it
 pub record Turn (i : Image) (out₀ : List ℕ) (c : Cursor) (at : ℕ) (out : List ℕ) (v : ℕ) (next : Cursor) : Type 0 where
   pub key : Key
+  pub named : key_of (image_map i) next ≡ Some key
+  pub belonging : belongs (image_map i) next ≡ true
+  pub put_is : key_out i next (take (length out - at) (drop at out)) ≡ over key (take (length out - at) (drop at out))
   pub says : key_says i next (take (length out - at) (drop at out)) ≡ 0 ∷ length key ∷ []
   pub left : take at out ++ (key_out i next (take (length out - at) (drop at out)) ++ drop (length out - at) (drop at out)) ≡ take at out ++ over key (drop at out)
   pub room : at + length key + length (tab_text ([], v)) ≤ length out
@@ -175,10 +184,42 @@ module _ (i : Image) (image : MapImage i) (out₀ : List ℕ) where
   abbrev m : Map
   m = image_map i
 
+  -- an open cursor of the start stands at the root, and has given nothing
+  pub listing-opens : (kind : Kind) (top last : ℕ) → said_started (Ok (Open kind top last)) ≡ start_says kinds.Predictive i [] → (top ≡ 1) × (last ≡ 0) × (Open kind top last ≡ Open kinds.Predictive 1 0)
+  listing-opens kind top last h = go m refl
+    where
+      first : Map → Cursor
+      first n = cond (nonempty n) (Open kinds.Predictive (node_of m []) 0) (Finished kinds.Predictive)
+
+      go : (n : Map) → m ≡ n → (top ≡ 1) × (last ≡ 0) × (Open kind top last ≡ Open kinds.Predictive 1 0)
+      go [] e =
+          let is : Open kind top last ≡ Finished kinds.Predictive = start-is i image (Open kind top last) h ∙ ap first e in
+          let z : ◌≡◌ {A = ℕ} 0 1 = cc in absurd (omega arith)
+      go (d ∷ n) e =
+          let is : Open kind top last ≡ Open kinds.Predictive 1 0 = start-is i image (Open kind top last) h ∙ ap first e ∙ ap (λ (k : ℕ). Open kinds.Predictive k 0) (node_of-root m) in
+          (cc, cc, is)
+
+  -- a start that is finished: there is no entry
+  pub listing-none : (kind : Kind) → said_started (Ok (Finished kind)) ≡ start_says kinds.Predictive i [] → Put (map_text m) out₀ 0 out₀
+  unfolding map_text
+  listing-none kind h = go m refl
+    where
+      first : Map → Cursor
+      first n = cond (nonempty n) (Open kinds.Predictive (node_of m []) 0) (Finished kinds.Predictive)
+
+      go : (n : Map) → m ≡ n → Put (map_text m) out₀ 0 out₀
+      go [] e = subst (λ (n : Map). Put (map_text n) out₀ 0 out₀) (sym e) (put-start out₀)
+      go (d ∷ n) e =
+          let is : Finished kind ≡ Open kinds.Predictive (node_of m []) 0 = start-is i image (Finished kind) h ∙ ap first e in
+          let z : ◌≡◌ {A = ℕ} 0 1 = cc in absurd (omega arith)
+
   pub listing-starts : (c : Cursor) → said_started (Ok c) ≡ start_says kinds.Predictive i [] → Listed i out₀ c 0 out₀
   listing-starts c h = record { s = []; rest = m; stands = start-rest i image c h; put = put-start out₀; whole = refl }
 
   module _ (c : Cursor) (at : ℕ) (out : List ℕ) (l : Listed i out₀ c at out) where
+    pub listing-belongs : belongs m c ≡ true
+    listing-belongs = l.stands.belonging
+
     -- the place is inside the buffer
     pub listing-within : length (map_text m) ≤ length out₀ → at ≤ length out
     listing-within fits =
@@ -230,6 +271,9 @@ module _ (i : Image) (image : MapImage i) (out₀ : List ℕ) where
             let all : take (length out - at) (drop at out) ≡ drop at out = take_all (length out - at) (drop at out) (omega (arith, length-drop at out)) in
             record {
               key = e.0;
+              named = key-of;
+              belonging = belonging;
+              put_is = ap (key_out i d) all ∙ keyed.1 ∙ ap (over e.0) (sym all);
               says = ap (key_says i d) all ∙ keyed.0;
               left =
                   ap (λ (xs : List ℕ). take at out ++ (key_out i d xs ++ drop (length out - at) (drop at out))) all

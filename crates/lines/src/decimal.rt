@@ -1,5 +1,6 @@
 // Numbers as decimal text, read and written.
 ghost use Rattle.std.specs.Prelude.{◌≡◌, ◌≤◌, length};
+ghost use Rattle.keymap.specs.Buffers.{over};
 ghost use Rattle.lines.specs.Decimal.{most_digits, decimal, leading_zero, number_in};
 ghost use Rattle.lines.specs.Numerals.{digits_in};
 
@@ -49,13 +50,14 @@ pub fn digit_count(number: u32) -> usize
     number.max(1).ilog10() as usize + 1
 }
 
-// Fills a buffer, which is as long as the number has digits, with these.
-pub fn put_decimal(number: u32, out: &mut [u8])
-    requires { length out.old ≡ length (decimal number) }
-    ensures { out.new ≡ decimal number }
+// Puts the `count` digits of a number at the start of a buffer that has room; what stands behind them stays.
+pub fn put_decimal(number: u32, count: usize, out: &mut [u8])
+    requires counted { count ≡ length (decimal number) }
+    requires room { count ≤ length out.old }
+    ensures { out.new ≡ over (decimal number) out.old }
 {
     let mut rest = number;
-    for i in (0..out.len()).rev() {
+    for i in (0..count).rev() {
         out[i] = b'0' + (rest % 10) as u8;
         rest /= 10;
     }

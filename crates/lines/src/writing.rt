@@ -17,6 +17,6 @@ pub fn put_line(key: &[u8], number: u32, digits: usize, out: &mut [u8])
     let end = tab + 1 + digits;
     out[..tab].copy_from_slice(key);
     out[tab] = TAB;
-    put_decimal(number, &mut out[tab + 1..end]);
+    put_decimal(number, digits, &mut out[tab + 1..end]);
     out[end] = LF;
 }

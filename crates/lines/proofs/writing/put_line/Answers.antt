@@ -1,9 +1,9 @@
 -- `lines::writing::put_line` meets its contract: each part is put right behind those before it. Assumes nothing.
 use mathlib.Core.Path.{◌≡◌, refl, ap, ◌∙◌, sym}
-use mathlib.Core.List.{List, [], ◌∷◌, ◌++◌, append_assoc}
+use mathlib.Core.List.{List, [], ◌∷◌, ◌++◌, append_assoc, append-nil}
 use Prim.Native.Nat.{ℕ, ◌+◌, ◌-◌, ◌≤◌}
 use native.Mathlib.Omega.{arith}
-use lib.ListN.{length, drop, set, length-append}
+use lib.ListN.{length, drop, set, length-append, drop_of_length-le}
 use borrow.Rule.Slice.PartMut.{put_mid}
 use Rattle.keymap.specs.Buffers.{over}
 use Rattle.lines.specs.Bytes.{tab, line_feed}
@@ -33,7 +33,13 @@ put key keyed digits out n k e h p q =
     ∙ over-set ((key ++ (tab ∷ [])) ++ decimal n) out (length key + 1 + k) line_feed (sym whole) (omega arith)
     ∙ ap (λ (t : List ℕ). over (t ++ (line_feed ∷ [])) out) (append_assoc key (tab ∷ []) (decimal n))
 
+-- digits put over as many bytes are all of these
+filled : (digits part : List ℕ) → length part ≤ length digits → over digits part ≡ digits
+unfolding over
+filled digits part h = ap (λ (t : List ℕ). digits ++ t) (drop_of_length-le part {i = length digits} h) ∙ append-nil digits
+
 pub returns : goal.returns
 returns c =
     let a = c.args in
-    put a.key.now _ _ a.out.now a.number a.digits c.requires.counted c.requires.room c.copy_from_slice.ensures.after c.put_decimal.ensures
+    put a.key.now _ _ a.out.now a.number a.digits c.requires.counted c.requires.room c.copy_from_slice.ensures.after
+    (c.put_decimal.ensures ∙ filled (decimal a.number) _ (omega (arith, c.requires.counted)))

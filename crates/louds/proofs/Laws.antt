@@ -11,6 +11,7 @@ pub mod Taking
 pub mod MarkWords
 pub mod Passing
 pub mod Descending
+pub mod DescendingCounted
 pub mod Put
 pub mod Degrees
 pub mod MapNodes

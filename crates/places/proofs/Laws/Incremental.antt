@@ -10,9 +10,11 @@
 --     answer-tells          what the two tests of an answer mean
 --     query-moves, query-stays; follow-moves; goto-moves, goto-stays  the path of the place afterwards
 --     goto-key-single       from a path with a single child goto moves on, be the path a key or not
---     checked-ok, checked-err  the two tests by what they answer; `no-image`: where the first fails; `passed-on`: where a
+--     checked-ok, checked-err  the two tests by what they answer; `no-image`, `no-node`: where the first fails, and where
+--                           the second; `passed-on`: where a
 --                           call passes their refusal on
---     promise-refused, promise-kept  a promise by the tests that come first
+--     promise-stays, promise-refused, promise-strange, promise-kept  a promise by the tests that come first: of any
+--                           refusal that they give, and of each of the two by itself
 -- Assumes nothing.
 use mathlib.Core.Path.{◌≡◌, refl, sym, ap, ◌∙◌}
 use mathlib.Core.Logic.{inr, ⊎_elim}
@@ -200,7 +202,7 @@ module _ (i : Image) (k : ℕ) where
   pub no-image : image_test i ≡ false → Refused i k NotAnImage
   no-image e = record { says = λ s. rw e; stays = λ to. rw e; leaves = λ new old. rw e }
 
-  no-node : image_test i ≡ true → is_node (image_map i) k ≡ false → Refused i k BadPlace
+  pub no-node : image_test i ≡ true → is_node (image_map i) k ≡ false → Refused i k BadPlace
   no-node e f = record { says = λ s. rw (e, f); stays = λ to. rw (e, f); leaves = λ new old. rw (e, f) }
 
   pub checked-ok : LentSlices i → (u : Unit {0}) → checked_place i k ≡ Ok u → Belongs i k
@@ -228,8 +230,14 @@ module _ (i : Image) (k : ℕ) where
 -- ---- promises
 
 module _ (i : Image) (k : ℕ) (says : List ℕ) (to : ℕ) where
-  pub promise-refused : (r : Refusal) → Refused i k r → Promise (refuses r) (on_place i k says) (place_at k) (from_place i k to)
-  promise-refused r refused = record { answers = sym (refused.says says); stands = ap place_at (sym (refused.stays to)) }
+  pub promise-stays : (r : Refusal) → Refused i k r → Promise (refuses r) (on_place i k says) (place_at k) (from_place i k to)
+  promise-stays r refused = record { answers = sym (refused.says says); stands = ap place_at (sym (refused.stays to)) }
+
+  pub promise-refused : image_test i ≡ false → Promise (refuses NotAnImage) (on_place i k says) (place_at k) (from_place i k to)
+  promise-refused e = promise-stays NotAnImage (no-image i k e)
+
+  pub promise-strange : image_test i ≡ true → is_node (image_map i) k ≡ false → Promise (refuses BadPlace) (on_place i k says) (place_at k) (from_place i k to)
+  promise-strange e f = promise-stays BadPlace (no-node i k e f)
 
   pub promise-kept : image_test i ≡ true → is_node (image_map i) k ≡ true → (said : List ℕ) (node : ℕ) → said ≡ says → node ≡ to
       → Promise said (on_place i k says) (place_at node) (from_place i k to)

@@ -1,7 +1,7 @@
 -- `places::calls::goto_at` meets its contract: 6 of an image that no map has, then 7 of a number that is no node's, else what the walk on numbers answers. Assumes nothing.
 use mathlib.Core.Path.{sym, ◌∙◌}
 use Rattle.image.specs.Meaning.{image_in}
-use Rattle.places.proofs.Laws.Incremental.{Belongs, checked-ok, checked-err, promise-refused, goto-promise}
+use Rattle.places.proofs.Laws.Incremental.{Belongs, checked-ok, checked-err, promise-stays, goto-promise}
 use Rattle.places.proofs.Laws.MapMoves.{goto-kept}
 use Rattle.places.proofs.calls.goto_at.Goals.{In-Ok}
 use Rattle.places.proofs.calls.goto_at.Goals as goal
@@ -19,4 +19,4 @@ returns-in-Ok c =
 
 pub returns-in-Err : goal.returns-in-Err
 returns-in-Err c =
-    goto-promise (image_in c.args.labels c.args.values c.args.words) c.args.node _ _ (promise-refused (image_in c.args.labels c.args.values c.args.words) c.args.node _ _ _ (checked-err _ _ _ (sym c.check_place.ensures ∙ c.in-Err.is)))
+    goto-promise (image_in c.args.labels c.args.values c.args.words) c.args.node _ _ (promise-stays (image_in c.args.labels c.args.values c.args.words) c.args.node _ _ _ (checked-err _ _ _ (sym c.check_place.ensures ∙ c.in-Err.is)))

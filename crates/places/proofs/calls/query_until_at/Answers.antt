@@ -1,7 +1,7 @@
 -- `places::calls::query_until_at` meets its contract: 6 of an image that no map has, then 7 of a number that is no node's, else what the walk on numbers answers. Assumes nothing.
 use mathlib.Core.Path.{sym, ◌∙◌}
 use Rattle.image.specs.Meaning.{image_in}
-use Rattle.places.proofs.Laws.Incremental.{Belongs, checked-ok, checked-err, promise-refused, follow-promise}
+use Rattle.places.proofs.Laws.Incremental.{Belongs, checked-ok, checked-err, promise-stays, follow-promise}
 use Rattle.places.proofs.Laws.MapMoves.{follow-kept}
 use Rattle.places.proofs.calls.query_until_at.Goals.{In-Ok}
 use Rattle.places.proofs.calls.query_until_at.Goals as goal
@@ -19,4 +19,4 @@ returns-in-Ok c =
 
 pub returns-in-Err : goal.returns-in-Err
 returns-in-Err c =
-    follow-promise (image_in c.args.labels c.args.values c.args.words) c.args.node c.args.query.now _ _ (promise-refused (image_in c.args.labels c.args.values c.args.words) c.args.node _ _ _ (checked-err _ _ _ (sym c.check_place.ensures ∙ c.in-Err.is)))
+    follow-promise (image_in c.args.labels c.args.values c.args.words) c.args.node c.args.query.now _ _ (promise-stays (image_in c.args.labels c.args.values c.args.words) c.args.node _ _ _ (checked-err _ _ _ (sym c.check_place.ensures ∙ c.in-Err.is)))

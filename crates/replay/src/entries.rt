@@ -1,5 +1,5 @@
 // The entries of the lent memory and the bytes of keys: what digits spell, and storing it.
-ghost use Rattle.std.specs.Prelude.{◌≡◌, ◌<◌, ◌≤◌, length, take};
+ghost use Rattle.std.specs.Prelude.{◌≡◌, ◌<◌, ◌≤◌, ◌-◌, length, take};
 
 // The value of a digit; of any other byte, no matter what, where `char::to_digit` has none to shift in.
 fn digit(glyph: u8) -> u64 {
@@ -81,10 +81,17 @@ pub fn store<T: Entry>(all: &mut [T], from: usize, digits: &[u8]) {
     }
 }
 
+// Where the last entries begin, of so many.
+fn start_of(count: u32, last: usize) -> usize
+    ensures { result ≡ count - last }
+{
+    (count as usize).saturating_sub(last)
+}
+
 // Stores what the digits spell as the last of so many entries.
 pub fn store_last<T: Entry>(all: &mut [T], count: u32, digits: &[u8]) {
     let spelled = digits.len() / T::digits();
-    store(all, (count as usize).saturating_sub(spelled), digits);
+    store(all, start_of(count, spelled), digits);
 }
 
 // Puts what the digits spell at the start, as far as there is room, and answers how many entries that is.

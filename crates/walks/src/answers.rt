@@ -1,8 +1,8 @@
 // What `stands::kids` answers. It stands apart from that function, since no two names of a module may differ only in
 // case.
 
-// The children of a node. A stand that has none, or that can be none, has 0 of them from 0 on, at the end of the bits:
-// the next step goes by numbers, and finds the same of both.
+// The children of a node. A stand that cannot be one has 0 of them, from 0 on, at the end of the bits; no child has the
+// number 0, so a step down ends there.
 #[derive(Clone, Copy)]
 pub struct Kids {
     pub first: usize,

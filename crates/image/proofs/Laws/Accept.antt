@@ -7,7 +7,7 @@
 --     accepted-image      the image is that of the map that it stands for
 --     accepted-catalogue  which is a catalogue
 --     accepted-forest     the image is that of the trie that is decoded from it
---     node-same           equal answers have equal numbers: of a parent, and `run-count` of a run of children
+--     node-same           equal answers have equal numbers: of a parent
 -- Assumes nothing.
 use Rattle.std.specs.Prelude.{Some}
 use mathlib.Core.Path.{◌≡◌, refl, sym, ap, ap₂, ◌∙◌, subst}

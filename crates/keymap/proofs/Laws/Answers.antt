@@ -2,6 +2,7 @@
 --
 --     written-fits     it is written
 --     written-short    the buffer is shorter, and stays
+--     said-number      what is said begins with the number of a refusal, and with 0 where there is none
 --     said-one         what is said gives the answer back, if what it tells does
 --     nothing-one, count-one, value-one, flag-one  what is told gives back: nothing, a count, a value found, yes or no
 -- Assumes nothing.
@@ -11,11 +12,11 @@ use mathlib.Core.List.{head-eq_of_cons-eq, tail-eq_of_cons-eq, nil≢cons, cons-
 use mathlib.Core.Bool.{Bool, true, false}
 use Prim.Native.Nat.{ℕ, ◌≤◌, ◌<◌}
 use mathlib.Core.List.{List, [], ◌∷◌, ◌++◌}
-use lib.ListN.{length, drop}
+use lib.ListN.{length, drop, get_or}
 use borrow.Author.Tests.{le-leb, lt-leb}
 use Rattle.keymap.specs.Key.{Key}
 use Rattle.keymap.specs.Buffers.{over}
-use Rattle.keymap.specs.Refusals.{refuses}
+use Rattle.keymap.specs.Refusals.{refuses, refusal_number}
 use Rattle.keymap.specs.declared.refusals.Refusal.TheVariants.{KeyRoom}
 use Rattle.keymap.specs.declared.refusals.Refusal.{Refusal}
 use Rattle.keymap.specs.Answers.{said, told_nothing, told_count, told_value, told_flag, says_written, written_to}
@@ -32,6 +33,15 @@ module _ (k : Key) (out : List ℕ) where
 
   pub written-short : length out < length k → KeyWritten k out (refuses KeyRoom) out
   written-short l = record { says_is = rw (lt-leb (length k) (length out) l); after_is = rw (lt-leb (length k) (length out) l) }
+
+-- the number of a refusal, 0 of every other answer
+abbrev pub number_of : {T : Type 0} → Result T Refusal → ℕ
+number_of (Ok x) = 0
+number_of (Err r) = refusal_number r
+
+pub said-number : {T : Type 0} (tells : T → List ℕ) (a : Result T Refusal) → get_or (said tells a) 0 0 ≡ number_of a
+said-number tells (Ok x) = refl
+said-number tells (Err r) = refl
 
 module _ {T : Type 0} (tells : T → List ℕ) (one : (x y : T) → tells x ≡ tells y → x ≡ y) where
   pub said-one : (a b : Result T Refusal) → said tells a ≡ said tells b → a ≡ b

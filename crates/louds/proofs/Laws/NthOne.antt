@@ -8,11 +8,12 @@
 --     picking-last            the next is the one sought
 --     picking-none            there are no more
 --     has-kth, has-fewer      the word has so many ones, or fewer
---     byte-has, from_byte     the j-th one by the digits from a place on
+--     byte-has, from_byte-some, from_byte  the j-th one by the digits from a place on
 --
 -- Assumes nothing.
-use Rattle.std.specs.Prelude.{None, Some}
-use Rattle.std.specs.Option.{IsSome}
+use mathlib.Core.Bool.{false≢true}
+use Rattle.std.specs.Prelude.{Option, None, Some}
+use Rattle.std.specs.Option.{IsSome, is_some, unwrap_or}
 use Rattle.std.proofs.Common.{◌≡◌, ℕ, zero, suc, ◌+◌, ◌-◌, ◌*◌, ◌/◌, ◌%◌, ◌^◌, ◌<◌, ◌≤◌, sym, refl, ap, ◌∙◌, ap₂, lt_of_lt_of_le, lt_of_le_of_lt, mod-eq_of_lt, add-one, one-add, arith, lit<, lit≤, pow_mono}
 use native.Mathlib.Decide.{dec_le}
 use lib.Pow.{shr_le}
@@ -262,8 +263,8 @@ module _ (x j start : ℕ) (wide : x < 2 ^ word_bits) (fewer : ones (x % 2 ^ sta
   pub byte-has : IsSome (kth (digit from_start) word_bits (j - ones (x % 2 ^ start)))
   byte-has = has-kth from_start (j - ones (x % 2 ^ start)) from-wide (omega (arith, fewer)) (omega (arith, enough, both-parts))
 
-  pub from_byte : (p : ℕ) → kth (digit from_start) word_bits (j - ones (x % 2 ^ start)) ≡ Some p → kth (digit x) word_bits j ≡ Some (start + p)
-  from_byte p is = kth-at (digit x) word_bits (start + p) j inside (omega (arith, before, f.before)) (omega (arith, before, one, f.upto))
+  pub from_byte-some : (p : ℕ) → kth (digit from_start) word_bits (j - ones (x % 2 ^ start)) ≡ Some p → kth (digit x) word_bits j ≡ Some (start + p)
+  from_byte-some p is = kth-at (digit x) word_bits (start + p) j inside (omega (arith, before, f.before)) (omega (arith, before, one, f.upto))
     where
       f : Found (digit from_start) word_bits (j - ones (x % 2 ^ start)) p
       f = kth-told (digit from_start) word_bits (j - ones (x % 2 ^ start)) p is
@@ -280,3 +281,11 @@ module _ (x j start : ℕ) (wide : x < 2 ^ word_bits) (fewer : ones (x % 2 ^ sta
           go : Dec (word_bits ≤ start + p) → start + p < word_bits
           go (yes h) = absurd (omega (arith, one, f.before, f.upto, digit-beyond x (start + p) (lt_of_lt_of_le wide (pow_mono {i = word_bits} {j = start + p} h))))
           go (no h) = omega arith
+
+  -- the j-th one is there, so its place is that of the digits from there on, whatever is told where they have none
+  pub from_byte : (p : ℕ) → p ≡ unwrap_or (kth (digit from_start) word_bits (j - ones (x % 2 ^ start))) word_bits → kth (digit x) word_bits j ≡ Some (start + p)
+  from_byte p is = go (kth (digit from_start) word_bits (j - ones (x % 2 ^ start))) refl
+    where
+      go : (o : Option ℕ) → kth (digit from_start) word_bits (j - ones (x % 2 ^ start)) ≡ o → kth (digit x) word_bits j ≡ Some (start + p)
+      go None e = absurd (false≢true (ap is_some (sym e) ∙ byte-has))
+      go (Some q) e = from_byte-some p (e ∙ ap Some (sym (is ∙ ap (λ (o : Option ℕ). unwrap_or o word_bits) e)))

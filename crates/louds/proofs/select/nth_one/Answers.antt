@@ -7,7 +7,7 @@ use Rattle.louds.specs.Digits.{digit}
 use Rattle.louds.specs.Taking.{low_bits, top_bits}
 use Rattle.louds.specs.Select.{kth}
 use Rattle.louds.proofs.Laws.Select.{kth-told}
-use Rattle.louds.proofs.Laws.NthOne.{sums-fit, ByteFound, byte-found, has-kth, byte-has, from_byte}
+use Rattle.louds.proofs.Laws.NthOne.{sums-fit, ByteFound, byte-found, has-kth, byte-has, from_byte-some}
 use Rattle.louds.proofs.select.nth_one.Goals.{After-lowest_one-start, After-ones_by_byte-sums, After-picked-2, After-unwrap-2}
 use Rattle.louds.proofs.select.nth_one.Goals as goal
 
@@ -44,7 +44,7 @@ unwrap-requires-2 c = rw (in-byte c) (byte-has c.args.word c.args.j (c.lowest_on
 
 found : (c : After-unwrap-2) → kth (digit c.args.word) word_bits c.args.j ≡ Some (c.lowest_one-start.result - 7 + c.unwrap-2.result)
 found c =
-    from_byte c.args.word c.args.j (c.lowest_one-start.result - 7) c.ranges.word.fits (byte c.before.before).fewer c.requires.1 c.unwrap-2.result
+    from_byte-some c.args.word c.args.j (c.lowest_one-start.result - 7) c.ranges.word.fits (byte c.before.before).fewer c.requires.1 c.unwrap-2.result
     (sym (in-byte c.before) ∙ c.unwrap-2.ensures)
 
 pub overflow_add-result : goal.overflow_add-result

@@ -3,7 +3,8 @@
 --     not-accepted                     a refusal is told from an answer
 --     entry-said, entry-none           the entry of a line, by what `tab_line` answered
 --     line_refused                     a refused line leaves the pool as it was
---     fill_end, fill-goes, fill_stops  the equations of `fill_from` and `left_from`, by what one line says
+--     fill_end, fill-goes, fill_stops  the equations of `fill_from` and `left_from`, by what one line says;
+--                                      `fill-done`, `fill_refused`: by its answer
 --     fill-means                       lines accepted whole leave a sound pool that holds the inserts of their entries
 --     filled-holds                     a text accepted whole after a reset leaves a sound pool that holds the map of
 --                                      its entries
@@ -18,7 +19,7 @@ use mathlib.Core.List.{List, [], ◌∷◌, ◌++◌}
 use Rattle.std.specs.Prelude.{Option, None, Some, Result, Ok, Err}
 use lib.ListN.{length, get_or, take}
 use lib.Dec.{eqb, lit≤}
-use borrow.Author.Tests.{ne_eqb, eqb-false}
+use borrow.Author.Tests.{eq-eqb, ne_eqb, eqb-false}
 use Rattle.keymap.specs.Limits.{byte_limit}
 use Rattle.keymap.specs.Key.{Bytes}
 use Rattle.keymap.specs.Map.{Entry, insert_all}
@@ -87,15 +88,26 @@ pub fill_end : (n : ℕ) (p : Pool) (ls : List (List ℕ)) → ls ≡ [] → (0 
 unfolding fill_from left_from
 fill_end n p ls e = rw e (refl, refl)
 
+module _ (n : ℕ) (p : Pool) (l : List ℕ) (ls : List (List ℕ)) (a : ℕ) (said : a ∷ [] ≡ line_says p (tab_entry l)) where
+  pub fill-goes : a ≡ 0 → (fill_from n p (l ∷ ls) ≡ fill_from (suc n) (line_pool p (tab_entry l)) ls) × (left_from p (l ∷ ls) ≡ left_from (line_pool p (tab_entry l)) ls)
+  unfolding fill_from left_from
+  fill-goes z = let t : accepted (line_says p (tab_entry l)) ≡ true = ap accepted (sym said) ∙ eq-eqb a 0 z in (rw t, rw t)
+
+  pub fill_stops : ¬ (a ≡ 0) → (a ∷ n ∷ [] ≡ fill_from n p (l ∷ ls)) × (line_pool p (tab_entry l) ≡ left_from p (l ∷ ls))
+  unfolding fill_from left_from
+  fill_stops d =
+      let f : accepted (line_says p (tab_entry l)) ≡ false = ap accepted (sym said) ∙ ne_eqb a 0 d in
+      (rw f (ap (λ (s : List ℕ). s ++ (n ∷ [])) said), rw f (line_refused p (tab_entry l) f))
+
 module _ (n : ℕ) (p : Pool) (l : List ℕ) (ls : List (List ℕ)) where
-  pub fill-goes : 0 ∷ [] ≡ line_says p (tab_entry l)
+  pub fill-done : 0 ∷ [] ≡ line_says p (tab_entry l)
       → (fill_from n p (l ∷ ls) ≡ fill_from (suc n) (line_pool p (tab_entry l)) ls) × (left_from p (l ∷ ls) ≡ left_from (line_pool p (tab_entry l)) ls)
   unfolding fill_from left_from
-  fill-goes said = let t : accepted (line_says p (tab_entry l)) ≡ true = ap accepted (sym said) in (rw t, rw t)
+  fill-done said = let t : accepted (line_says p (tab_entry l)) ≡ true = ap accepted (sym said) in (rw t, rw t)
 
-  pub fill_stops : (r : Refusal) → refuses r ≡ line_says p (tab_entry l) → (refusal_number r ∷ n ∷ [] ≡ fill_from n p (l ∷ ls)) × (line_pool p (tab_entry l) ≡ left_from p (l ∷ ls))
+  pub fill_refused : (r : Refusal) → refuses r ≡ line_says p (tab_entry l) → (refusal_number r ∷ n ∷ [] ≡ fill_from n p (l ∷ ls)) × (line_pool p (tab_entry l) ≡ left_from p (l ∷ ls))
   unfolding fill_from left_from
-  fill_stops r said =
+  fill_refused r said =
       let f : accepted (line_says p (tab_entry l)) ≡ false = ap accepted (sym said) ∙ not-accepted r in
       (rw f (ap (λ (s : List ℕ). s ++ (n ∷ [])) said), rw f (line_refused p (tab_entry l) f))
 

@@ -7,7 +7,7 @@ use Rattle.records.specs.Words.{Pool}
 use Rattle.lines.specs.Text.{lines_of}
 use Rattle.lines.proofs.Laws.Text.{Cuts, next-none, next-cuts}
 use Rattle.catalogue.specs.Filling.{fill_from, left_from}
-use Rattle.catalogue.proofs.Laws.Filling.{fill_end, fill-goes, fill_stops}
+use Rattle.catalogue.proofs.Laws.Filling.{fill_end, fill-done, fill_refused}
 use Rattle.catalogue.proofs.filling.push_lines.Goals.{In-Some}
 use Rattle.catalogue.proofs.filling.push_lines.Goals as goal
 
@@ -28,7 +28,7 @@ pub returns-in-Err : goal.returns-in-Err
 returns-in-Err c =
     let i = c.loop-end in
     let k = cut (goal.at.returns-in-Err c).In-Some in
-    let stops = fill_stops i.line i.pool _ _ _ c.in-Err.ensures.answer in record {
+    let stops = fill_refused i.line i.pool _ _ _ c.in-Err.ensures.answer in record {
       answer = stops.0 ∙ sym (i.invariant.says ∙ ap (fill_from i.line i.pool) k.lines);
       left = c.push_line.ensures.left ∙ stops.1 ∙ sym (i.invariant.leaves ∙ ap (left_from i.pool) k.lines);
     }
@@ -48,7 +48,7 @@ loop-end-preserved c =
     let i = c.loop-end in
     let k = cut (goal.at.loop-end-preserved c).In-Some in
     let rest = lines_of (drop c.in-Some.field-0.next c.args.text.now) in
-    let goes = fill-goes i.line i.pool _ rest c.in_default-push_line.ensures.answer in
+    let goes = fill-done i.line i.pool _ rest c.in_default-push_line.ensures.answer in
     let left = c.push_line.ensures.left in record {
       numbered = omega (arith, k.moves, i.invariant.numbered);
       size = c.push_line.auto.pool ∙ i.invariant.size;

@@ -10,7 +10,6 @@
 pub mod place;
 
 pub use keymap::Refusal;
-
 pub use listings::answers::{Cursor, Kind, Stepped};
 pub use listings::{cursor_key, postfix_search, predictive_search, step};
 pub use searches::answers::Common;

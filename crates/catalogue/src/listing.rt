@@ -49,7 +49,7 @@ pub fn list_pool(
 // Puts the listing of an image's map at the start of a buffer that holds it, each key straight behind the line before;
 // answers its length. The start of the listing tests the image. What is gone over then is still that image, so the
 // calls below a cursor's take the place of its steps and keys: each of these would test it again, which took the
-// program nearly twice the time.
+// program up to 1.8 of the time.
 fn list_image(labels: &[u16], values: &[u32], words: &[u64], out: &mut [u8]) -> usize
     requires of_map { MapImage (image_in labels values words) }
     requires room { length (map_text (image_map (image_in labels values words))) ≤ length out.old }

@@ -102,8 +102,7 @@ module _ (n : ℕ) (p : Pool) (l : List ℕ) (ls : List (List ℕ)) (a : ℕ) (s
 module _ (n : ℕ) (p : Pool) (l : List ℕ) (ls : List (List ℕ)) where
   pub fill-done : 0 ∷ [] ≡ line_says p (tab_entry l)
       → (fill_from n p (l ∷ ls) ≡ fill_from (suc n) (line_pool p (tab_entry l)) ls) × (left_from p (l ∷ ls) ≡ left_from (line_pool p (tab_entry l)) ls)
-  unfolding fill_from left_from
-  fill-done said = let t : accepted (line_says p (tab_entry l)) ≡ true = ap accepted (sym said) in (rw t, rw t)
+  fill-done said = fill-goes n p l ls 0 said refl
 
   pub fill_refused : (r : Refusal) → refuses r ≡ line_says p (tab_entry l) → (refusal_number r ∷ n ∷ [] ≡ fill_from n p (l ∷ ls)) × (line_pool p (tab_entry l) ≡ left_from p (l ∷ ls))
   unfolding fill_from left_from

@@ -74,16 +74,16 @@ finished-belongs : (m : Map) (kind : Kind) → belongs m (Finished kind) ≡ tru
 unfolding belongs
 finished-belongs m kind = refl
 
--- the cursor that a start gives: at the root, or finished where there is no entry
+-- the cursor that a start gives, by the entries that there are: at the root of m, or finished
+abbrev begun : Map → Map → Cursor
+begun m entries = cond (nonempty entries) (Open kinds.Predictive (node_of m []) 0) (Finished kinds.Predictive)
+
 start-is : (i : Image) → MapImage i → (c : Cursor) → said_started (Ok c) ≡ start_says kinds.Predictive i []
-    → c ≡ cond (nonempty (image_map i)) (Open kinds.Predictive (node_of (image_map i) []) 0) (Finished kinds.Predictive)
-start-is i image c h = at (first m) (h ∙ start_says-accepted i kinds.Predictive [] (map_image-tested i image) ∙ ap (λ (x : Map). 0 ∷ said_cursor (first x)) (beginning-all m))
+    → c ≡ begun (image_map i) (image_map i)
+start-is i image c h = at (begun m m) (h ∙ start_says-accepted i kinds.Predictive [] (map_image-tested i image) ∙ ap (λ (x : Map). 0 ∷ said_cursor (begun m x)) (beginning-all m))
   where
     m : Map
     m = image_map i
-
-    first : Map → Cursor
-    first n = cond (nonempty n) (Open kinds.Predictive (node_of m []) 0) (Finished kinds.Predictive)
 
     at : (d : Cursor) → 0 ∷ said_cursor c ≡ 0 ∷ said_cursor d → c ≡ d
     at d q = let cursors : said_cursor c ≡ said_cursor d = cc in said_cursor-one c d cursors
@@ -94,18 +94,15 @@ start-rest i image c h = go m refl
     m : Map
     m = image_map i
 
-    first : Map → Cursor
-    first n = cond (nonempty n) (Open kinds.Predictive (node_of m []) 0) (Finished kinds.Predictive)
-
     root : In [] (nodes m)
     root = (nodes-iff m []).1 (inl refl)
 
     go : (n : Map) → m ≡ n → Stands i c (image_map i)
     go [] e =
-        let is : c ≡ Finished kinds.Predictive = start-is i image c h ∙ ap first e in
+        let is : c ≡ Finished kinds.Predictive = start-is i image c h ∙ ap (begun m) e in
         record { belonging = ap (belongs m) is ∙ finished-belongs m kinds.Predictive; predictive = ap kind_of is; rest-is = ap (rest_of m) is ∙ sym e }
     go (d ∷ n) e =
-        let is : c ≡ Open kinds.Predictive (node_of m []) 0 = start-is i image c h ∙ ap first e in
+        let is : c ≡ Open kinds.Predictive (node_of m []) 0 = start-is i image c h ∙ ap (begun m) e in
         record {
           belonging = ap (belongs m) is ∙ belongs-fresh m image.catalogue.rising kinds.Predictive (node_of m []) (node_of-node m [] root);
           predictive = ap kind_of is;
@@ -188,15 +185,12 @@ module _ (i : Image) (image : MapImage i) (out₀ : List ℕ) where
   pub listing-opens : (kind : Kind) (top last : ℕ) → said_started (Ok (Open kind top last)) ≡ start_says kinds.Predictive i [] → (top ≡ 1) × (last ≡ 0) × (Open kind top last ≡ Open kinds.Predictive 1 0)
   listing-opens kind top last h = go m refl
     where
-      first : Map → Cursor
-      first n = cond (nonempty n) (Open kinds.Predictive (node_of m []) 0) (Finished kinds.Predictive)
-
       go : (n : Map) → m ≡ n → (top ≡ 1) × (last ≡ 0) × (Open kind top last ≡ Open kinds.Predictive 1 0)
       go [] e =
-          let is : Open kind top last ≡ Finished kinds.Predictive = start-is i image (Open kind top last) h ∙ ap first e in
+          let is : Open kind top last ≡ Finished kinds.Predictive = start-is i image (Open kind top last) h ∙ ap (begun m) e in
           let z : ◌≡◌ {A = ℕ} 0 1 = cc in absurd (omega arith)
       go (d ∷ n) e =
-          let is : Open kind top last ≡ Open kinds.Predictive 1 0 = start-is i image (Open kind top last) h ∙ ap first e ∙ ap (λ (k : ℕ). Open kinds.Predictive k 0) (node_of-root m) in
+          let is : Open kind top last ≡ Open kinds.Predictive 1 0 = start-is i image (Open kind top last) h ∙ ap (begun m) e ∙ ap (λ (k : ℕ). Open kinds.Predictive k 0) (node_of-root m) in
           (cc, cc, is)
 
   -- a start that is finished: there is no entry
@@ -204,13 +198,10 @@ module _ (i : Image) (image : MapImage i) (out₀ : List ℕ) where
   unfolding map_text
   listing-none kind h = go m refl
     where
-      first : Map → Cursor
-      first n = cond (nonempty n) (Open kinds.Predictive (node_of m []) 0) (Finished kinds.Predictive)
-
       go : (n : Map) → m ≡ n → Put (map_text m) out₀ 0 out₀
       go [] e = subst (λ (n : Map). Put (map_text n) out₀ 0 out₀) (sym e) (put-start out₀)
       go (d ∷ n) e =
-          let is : Finished kind ≡ Open kinds.Predictive (node_of m []) 0 = start-is i image (Finished kind) h ∙ ap first e in
+          let is : Finished kind ≡ Open kinds.Predictive (node_of m []) 0 = start-is i image (Finished kind) h ∙ ap (begun m) e in
           let z : ◌≡◌ {A = ℕ} 0 1 = cc in absurd (omega arith)
 
   pub listing-starts : (c : Cursor) → said_started (Ok c) ≡ start_says kinds.Predictive i [] → Listed i out₀ c 0 out₀
